@@ -1,0 +1,27 @@
+//! Plain data of the lake: texts, values, columns, rows, tests of rows, statements and kinds of change.
+//! Contracts see each of these types as the plain record or list that it stands for.
+#![tactic(auto)]
+
+mod cells;
+mod kind;
+mod lists;
+mod pred;
+mod stmt;
+mod truth;
+mod value;
+mod words;
+
+pub use cells::{cell_at, cell_named, chooses, column_named, test_row};
+pub use kind::{Clash, Kind, KindList, SchemaName, SchemaNames};
+pub use lists::{Copied, Listed};
+pub use pred::{Op, Pred, PredList};
+pub use stmt::{
+    Alter, Assignments, Cell, CellList, CellRows, ColumnDef, ColumnDefs, Item, ItemList, Stmt,
+    TableName,
+};
+pub use truth::{Truth, compared, is_null, order_of};
+pub use value::{CellValues, ColType, Column, ColumnList, Row, RowList, Value, ValueList};
+pub use words::{Blob, NoMemory, Words};
+
+#[cfg(test)]
+mod tests;
