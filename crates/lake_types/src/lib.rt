@@ -9,6 +9,7 @@ mod pred;
 mod stmt;
 mod truth;
 mod value;
+mod weights;
 mod words;
 
 pub use cells::{cell_at, cell_named, chooses, column_named, test_row};
@@ -21,6 +22,7 @@ pub use stmt::{
 };
 pub use truth::{Truth, compared, is_null, order_of};
 pub use value::{CellValues, ColType, Column, ColumnList, Row, RowList, Value, ValueList};
+pub use weights::{row_weight, weight};
 pub use words::{Blob, NoMemory, Words};
 
 #[cfg(test)]

@@ -1,4 +1,5 @@
 ghost use Rattle.std.specs.Prelude.{◌≡◌, IfOk};
+ghost use Rattle.std.specs.String.{string_bytes};
 
 use crate::lists::Copied;
 use std::alloc::{AllocError, Global};
@@ -29,6 +30,13 @@ impl Words {
     {
         let text = String::from_str(alloc, text)?;
         Ok(Words { text })
+    }
+
+    /// The text itself. It takes no memory.
+    pub fn from_string(text: String) -> Words
+        ensures { result ≡ string_bytes text }
+    {
+        Words { text }
     }
 
     pub fn as_str(&self) -> &str
