@@ -1,0 +1,4 @@
+pub mod Causes
+pub mod FailList
+pub mod Told
+pub mod Memory
