@@ -2,3 +2,4 @@ pub mod Causes
 pub mod FailList
 pub mod Told
 pub mod Memory
+pub mod Names
