@@ -1,0 +1,5 @@
+pub mod Causes
+pub mod FailList
+pub mod Told
+pub mod Memory
+pub mod Names
