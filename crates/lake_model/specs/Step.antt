@@ -27,6 +27,8 @@ use Rattle.lake_model.specs.declared.apply.Work.{Work}
 use Rattle.lake_model.specs.declared.change.Change.{Change}
 use Rattle.lake_model.specs.declared.change.Change.TheVariants.{CreateTable, Insert}
 use Rattle.lake_model.specs.declared.change.Ref.{Ref}
+use Rattle.lake_model.specs.declared.plan.Plan.{Plan}
+use Rattle.lake_model.specs.declared.plan.Plan.TheVariants as plan
 use Rattle.lake_model.specs.declared.change.Txn.{Txn}
 use Rattle.lake_model.specs.declared.state.Table.{Table}
 
@@ -77,10 +79,15 @@ commit lake session (Some txn) =
     if is_empty txn.own then answered (with_txn lake session None) (Number txn.base)
     else answered (with_txn (with_version lake txn.own) session None) (Number (head lake + 1))
 
--- a change goes to the end of the transaction's own list
+-- a writing statement is refused, or names a change that goes to the end of the transaction's own list
 
 abbrev pub with_change : Lake → ℕ → Txn → Change → Lake
 with_change lake session txn change = with_txn lake session (Some (record txn { own = txn.own ++ change ∷ [] }))
+
+abbrev pub followed : Lake → ℕ → Option Txn → Plan → Step
+followed lake session None plan = refused lake NoTransaction
+followed lake session (Some txn) (plan.Refuse answer) = refused lake answer
+followed lake session (Some txn) (plan.Append change answer) = answered (with_change lake session txn change) answer
 
 -- CREATE TABLE
 
@@ -102,13 +109,17 @@ names_differ (def ∷ defs) = not (is_among defs def.name) && names_differ defs
 abbrev pub can_create : List ColumnDef → Bool
 can_create defs = nat_le (length defs) 100 && (names_differ defs && list_all is_plain defs)
 
+-- without DEFAULT the default is NULL
+abbrev pub default_of : ColumnDef → Value
+default_of def = unwrap_or def.default_value value.Null
+
 abbrev pub column_of : ℕ → ColumnDef → Column
 column_of field def = record {
   field = field;
   name = def.name;
   ty = def.ty;
-  initial = unwrap_or def.default_value value.Null;
-  default_value = unwrap_or def.default_value value.Null;
+  initial = default_of def;
+  default_value = default_of def;
   nulls = def.nulls;
 }
 
@@ -120,16 +131,17 @@ columns_from field (def ∷ defs) = column_of field def ∷ columns_from (field 
 abbrev pub creation : Ref → List ℕ → List ColumnDef → Change
 creation schema name defs = CreateTable schema name (columns_from 1 defs)
 
-abbrev pub create_in : Lake → ℕ → Txn → List ℕ → List ColumnDef → Work → Option Ref → Step
-create_in lake session txn name defs w None = refused lake NotBuilt
-create_in lake session txn name defs w (Some schema) =
-    if is_none (table_named w schema name) && can_create defs then answered (with_change lake session txn (creation schema name defs)) Done
-    else refused lake NotBuilt
+abbrev pub create_in : Work → List ℕ → List ColumnDef → Option Ref → Plan
+create_in w name defs None = plan.Refuse NotBuilt
+create_in w name defs (Some schema) =
+    if is_none (table_named w schema name) && can_create defs then plan.Append (creation schema name defs) Done else plan.Refuse NotBuilt
+
+abbrev pub creation_plan : Work → TableName → List ColumnDef → Plan
+creation_plan w table defs = create_in w table.table defs (schema_named w table.schema)
 
 abbrev pub create_table : Lake → ℕ → Option Txn → TableName → List ColumnDef → Step
 create_table lake session None table defs = refused lake NoTransaction
-create_table lake session (Some txn) table defs =
-    create_in lake session txn table.table defs (seen lake txn) (schema_named (seen lake txn) table.schema)
+create_table lake session (Some txn) table defs = followed lake session (Some txn) (creation_plan (seen lake txn) table defs)
 
 -- INSERT
 
@@ -167,45 +179,49 @@ own_weight own = sum_by change_weight own
 abbrev pub has_room : List Change → List Cells → Bool
 has_room own rows = nat_le (own_weight own + rows_weight rows) 67108864
 
-abbrev pub insert_rows : Lake → ℕ → Txn → Ref → Option (List Cells) → Step
-insert_rows lake session txn table None = refused lake NotBuilt
-insert_rows lake session txn table (Some rows) =
-    if has_room txn.own rows then answered (with_change lake session txn (Insert table rows)) (Number (length rows))
-    else refused lake NotBuilt
+abbrev pub insert_rows : List Change → Ref → Option (List Cells) → Plan
+insert_rows own table None = plan.Refuse NotBuilt
+insert_rows own table (Some rows) =
+    if has_room own rows then plan.Append (Insert table rows) (Number (length rows)) else plan.Refuse NotBuilt
 
-abbrev pub insert_at : Lake → ℕ → Txn → TableName → List (List Cell) → Option Draft → Step
-insert_at lake session txn table rows None = refused lake (NoTable table)
-insert_at lake session txn table rows (Some d) = insert_rows lake session txn d.at (taken_rows d.columns rows)
+abbrev pub insert_at : List Change → TableName → List (List Cell) → Option Draft → Plan
+insert_at own table rows None = plan.Refuse (NoTable table)
+insert_at own table rows (Some d) = insert_rows own d.at (taken_rows d.columns rows)
 
-abbrev pub insert_in : Lake → ℕ → Txn → TableName → List (List Cell) → Work → Option Ref → Step
-insert_in lake session txn table rows w None = refused lake NotBuilt
-insert_in lake session txn table rows w (Some schema) = insert_at lake session txn table rows (table_named w schema table.table)
+abbrev pub insert_in : Work → List Change → TableName → List (List Cell) → Option Ref → Plan
+insert_in w own table rows None = plan.Refuse NotBuilt
+insert_in w own table rows (Some schema) = insert_at own table rows (table_named w schema table.table)
+
+abbrev pub insertion_plan : Work → List Change → TableName → List (List Cell) → Plan
+insertion_plan w own table rows = insert_in w own table rows (schema_named w table.schema)
 
 abbrev pub insert : Lake → ℕ → Option Txn → TableName → List (List Cell) → Step
 insert lake session None table rows = refused lake NoTransaction
-insert lake session (Some txn) table rows =
-    insert_in lake session txn table rows (seen lake txn) (schema_named (seen lake txn) table.schema)
+insert lake session (Some txn) table rows = followed lake session (Some txn) (insertion_plan (seen lake txn) txn.own table rows)
 
 -- SELECT * shows the rows of the transaction's view, rising by row id
 
 abbrev pub shown_rows : Table → List (List ℕ)
 shown_rows table = map (λ row. row_text table.columns row.cells) table.rows
 
-abbrev pub shown : Lake → Table → Step
-shown lake table = record { lake = lake; reply = record { rows = shown_rows table; last = Number (length table.rows) } }
+abbrev pub shown : Table → Reply
+shown table = record { rows = shown_rows table; last = Number (length table.rows) }
 
-abbrev pub select_at : Lake → TableName → ℕ → Work → Option Draft → Step
-select_at lake table next w None = refused lake (NoTable table)
-select_at lake table next w (Some d) = shown lake (settled_table next w.created d)
+abbrev pub select_at : TableName → ℕ → Work → Option Draft → Reply
+select_at table next w None = only (NoTable table)
+select_at table next w (Some d) = shown (settled_table next w.created d)
 
-abbrev pub select_in : Lake → TableName → ℕ → Work → Option Ref → Step
-select_in lake table next w None = refused lake NotBuilt
-select_in lake table next w (Some schema) = select_at lake table next w (table_named w schema table.table)
+abbrev pub select_in : TableName → ℕ → Work → Option Ref → Reply
+select_in table next w None = only NotBuilt
+select_in table next w (Some schema) = select_at table next w (table_named w schema table.table)
+
+abbrev pub selection : ℕ → Work → TableName → Reply
+selection next w table = select_in table next w (schema_named w table.schema)
 
 abbrev pub select_all : Lake → Option Txn → TableName → Step
 select_all lake None table = refused lake NoTransaction
 select_all lake (Some txn) table =
-    select_in lake table (version_at lake txn.base).next_catalog (seen lake txn) (schema_named (seen lake txn) table.schema)
+    record { lake = lake; reply = selection (version_at lake txn.base).next_catalog (seen lake txn) table }
 
 -- all statements; what is not built yet answers so and changes nothing
 

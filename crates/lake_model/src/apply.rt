@@ -63,7 +63,8 @@ pub struct Work {
     pub created_tables: u64,
 }
 
-fn is_ref(a: Ref, b: Ref) -> bool
+/// Whether two references name one thing.
+pub fn is_ref(a: Ref, b: Ref) -> bool
     ensures { result ≡ spec.is_ref a b }
 {
     match (a, b) {

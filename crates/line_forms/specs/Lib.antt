@@ -1,0 +1,4 @@
+pub mod Digits
+pub mod Forms
+pub mod Lines
+pub mod Tokens
