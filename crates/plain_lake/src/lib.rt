@@ -4,9 +4,7 @@
 mod columns;
 mod kept;
 mod names;
+mod plans;
 mod rows;
 
 pub use kept::Kept;
-
-#[cfg(test)]
-mod tests;

@@ -8,7 +8,12 @@ use lake_model::{Draft, Ref, Work, is_ref};
 pub fn schema_named(work: &Work, name: &str) -> Option<Ref>
     ensures { result ≡ spec.schema_named work.now name.now }
 {
-    match work.schemas.as_slice().iter().find(|s| s.name.as_str() == name) {
+    match work
+        .schemas
+        .as_slice()
+        .iter()
+        .find(|s| s.name.as_str() == name)
+    {
         Some(schema) => Some(schema.at),
         None => None,
     }
@@ -24,5 +29,8 @@ fn is_table(draft: &Draft, schema: Ref, name: &str) -> bool
 pub fn table_named<'a>(work: &'a Work, schema: Ref, name: &str) -> Option<&'a Draft>
     ensures { option_copied result ≡ spec.table_named work.now schema name.now }
 {
-    work.tables.as_slice().iter().find(|d| is_table(d, schema, name))
+    work.tables
+        .as_slice()
+        .iter()
+        .find(|d| is_table(d, schema, name))
 }
