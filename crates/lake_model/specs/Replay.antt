@@ -1,6 +1,6 @@
 -- What the counted lines of a script are answered.
 use Rattle.std.specs.Prelude.{◌≡◌, ℕ, ◌==◌, nat_eq, Bool, true, false, List, [], ◌∷◌, codes, map, flat_map, Option, Some, None, if◌then◌else◌}
-use Rattle.std.specs.List.{filter_map, starts_with, after_first}
+use Rattle.std.specs.List.{filter_map, starts_with}
 use Rattle.std.specs.Cmp.Lexicographic.{pointwise}
 use Rattle.lake_types.specs.declared.stmt.Stmt.{Stmt}
 use Rattle.lake_model.specs.Cuts.{ended_lines}
@@ -39,8 +39,10 @@ replay_text lake lines lost = flat_map told (replies lake lines lost)
 abbrev pub answer_in : List ℕ → Option (List ℕ)
 answer_in text = if starts_with nat_eq text (codes "row ") then None else Some text
 
+-- a head ends with the first space of its line
 abbrev pub behind_head : List ℕ → List ℕ
-behind_head line = after_first (λ b. b == 32) line
+behind_head [] = []
+behind_head (b ∷ line) = if b == 32 then line else behind_head line
 
 abbrev pub answers_in : List ℕ → List (List ℕ)
 answers_in text = filter_map (λ line. answer_in (behind_head line)) (ended_lines text)
