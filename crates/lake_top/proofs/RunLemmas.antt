@@ -1,0 +1,244 @@
+-- What a run has read and written.
+use Rattle.std.proofs.Common.{◌≡◌, ◌≢◌, ℕ, ◌+◌, ◌<◌, ◌≤◌, List, [], ◌∷◌, ◌++◌, length, take, drop, refl, ap, arith, sym, ◌∙◌, append_assoc, append-nil, length-append, subst, Bool, ◌⊎◌, inl, inr}
+use Rattle.std.specs.Prelude.{Option}
+use Rattle.std.proofs.Math.Seq.{take-append_seam, take-nil}
+use Rattle.std.proofs.lemmas.List.{take-append-drop}
+use Rattle.lake_io.specs.Told.{Takes, Gives, IsAtEnd}
+use Rattle.lake_io.proofs.ToldLemmas.{Takes-nothing, Takes-then, Gives-nothing, Gives-then}
+use Rattle.lake_model.specs.Cuts.{NoFeed}
+use Rattle.lake_model.specs.Lake.{Lake, new_lake}
+use Rattle.lake_model.specs.Replay.{Line, IsReplay, lost_in, replay_text}
+use Rattle.lake_model.proofs.ReplayLemmas.{replay-lost_in}
+use Rattle.lake_top.proofs.DeskLemmas.{answers-none, answers-then, breaks-then, ends-then, text-none}
+use Rattle.lake_top.specs.Desk.{Answers, Breaks, Desk, Ends, Moves, Stops, StopsOff, new_desk, text_from}
+use Rattle.lake_top.specs.Run.{Answered, FinishHalts, Halts, IsCutShort, Outcome, TurnHalts, last_line, status_of}
+use Rattle.lake_top.specs.Script.{first_lines, lines_of, lines_within_most, most_bytes, script_lines}
+use Rattle.lake_top.specs.declared.desk.Stop.{Stop}
+use Rattle.lake_top.specs.declared.desk.Stop.TheVariants as stop
+use Rattle.lake_top.specs.declared.halt.Halt.{Halt}
+use Rattle.lake_top.specs.declared.halt.Halt.TheVariants as halt
+use Rattle.lake_top.specs.declared.status.Status.{Status}
+use Rattle.lake_top.specs.declared.status.Status.TheVariants.{Good, Usage, ReadFault, WriteFault, Memory, TooLong}
+
+is-replay : (lines : List Line) (lost : List Bool) (out : List ℕ) → replay_text new_lake lines lost ≡ out → IsReplay new_lake lines out
+is-replay lines lost out e = let P : List ℕ → Type 0 = λ t. t ≡ replay_text new_lake lines (lost_in t) in subst P e (sym (replay-lost_in new_lake lines lost))
+
+takes-last : (s t : Option (List ℕ)) (out : List ℕ) → Takes s t out → Takes s t (out ++ [])
+takes-last s t out h = let P : List ℕ → Type 0 = λ x. Takes s t x in subst P (sym (append-nil out)) h
+
+takes-plain : (s t : Option (List ℕ)) (out : List ℕ) → Takes s t (out ++ []) → Takes s t out
+takes-plain s t out h = let P : List ℕ → Type 0 = λ x. Takes s t x in subst P (append-nil out) h
+
+pub moves-none : (a : Desk) (l s : Option (List ℕ)) → NoFeed a.pending → Moves a a 0 l l s s
+moves-none a l s h = record { bytes = []; counts = refl; given = Gives-nothing l; answered = answers-none a s h }
+
+pub moves-then : (a b c : Desk) (i n : ℕ) (l m o s t u : Option (List ℕ)) → Moves a b i l m s t → Moves b c n m o t u → Moves a c (i + n) l o s u
+moves-then a b c i n l m o s t u p q = record {
+  bytes = p.bytes ++ q.bytes;
+  counts = length-append p.bytes q.bytes ∙ cc (p.counts, q.counts);
+  given = Gives-then l m o p.bytes q.bytes p.given q.given;
+  answered = answers-then a b c p.bytes q.bytes s t u p.answered q.answered;
+}
+
+-- what an answered desk has written
+written-text : (d : Desk) (bytes : List ℕ) (s t : Option (List ℕ)) (p : Answers new_desk d bytes s t) → replay_text new_lake (lines_of bytes) p.lost ≡ p.out
+written-text d bytes s t p =
+    ap (λ x. replay_text new_lake (lines_of x) p.lost) (sym (append-nil bytes)) ∙ ap (text_from new_desk (bytes ++ [])) (sym (append-nil p.lost)) ∙ p.goes_on [] [] ∙ ap (λ x. p.out ++ x) (text-none d [] p.begun) ∙ append-nil p.out
+
+answered-by : (d : Desk) (bytes : List ℕ) (l m s t : Option (List ℕ)) → Gives l m bytes → Answers new_desk d bytes s t → Answered l m s t lines_of []
+answered-by d bytes l m s t h p = record {
+  bytes = bytes;
+  given = h;
+  out = p.out;
+  written = takes-last s t p.out p.written;
+  replay = is-replay (lines_of bytes) p.lost p.out (written-text d bytes s t p);
+}
+
+-- the end of the input
+pub answered-end : (d e : Desk) (n : ℕ) (l m s t u : Option (List ℕ)) → Moves new_desk d n l m s t → Answers d e (10 ∷ []) t u → Answered l m s u script_lines []
+answered-end d e n l m s t u p q =
+    let all : Answers new_desk e (p.bytes ++ 10 ∷ []) s u = answers-then new_desk d e p.bytes (10 ∷ []) s t u p.answered q in
+    record {
+      bytes = p.bytes;
+      given = p.given;
+      out = all.out;
+      written = takes-last s u all.out all.written;
+      replay = is-replay (script_lines p.bytes) all.lost all.out (written-text e (p.bytes ++ 10 ∷ []) s u all);
+    }
+
+-- a read fault
+pub answered-read : (d : Desk) (n : ℕ) (l m o s t : Option (List ℕ)) → Moves new_desk d n l m s t → Gives m o [] → Answered l o s t lines_of []
+answered-read d n l m o s t p h =
+    let P : List ℕ → Type 0 = λ x. Gives l o x in
+    answered-by d p.bytes l o s t (subst P (append-nil p.bytes) (Gives-then l m o p.bytes [] p.given h)) p.answered
+
+-- a script that is too long
+pub answered-long : (d : Desk) (n : ℕ) (l m o s t : Option (List ℕ)) (more : List ℕ) → Moves new_desk d n l m s t → n ≡ most_bytes → Gives m o more → Answered l o s t lines_within_most []
+answered-long d n l m o s t more p e h =
+    let within : take most_bytes (p.bytes ++ more) ≡ p.bytes = ap (λ k. take k (p.bytes ++ more)) (sym (p.counts ∙ e)) ∙ take-append_seam p.bytes more in
+    record {
+      bytes = p.bytes ++ more;
+      given = Gives-then l m o p.bytes more p.given h;
+      out = p.answered.out;
+      written = takes-last s t p.answered.out p.answered.written;
+      replay = is-replay (lines_within_most (p.bytes ++ more)) p.answered.lost p.answered.out (ap (λ x. replay_text new_lake (lines_of x) p.answered.lost) within ∙ written-text d p.bytes s t p.answered);
+    }
+
+-- want of memory
+first-front : (front back bytes : List ℕ) → front ++ back ≡ bytes ++ 10 ∷ [] → take (length front) (bytes ++ 10 ∷ []) ≡ front
+first-front front back bytes e = ap (take (length front)) (sym e) ∙ take-append_seam front back
+
+ended-part : (bytes whole z : List ℕ) (l m s t : Option (List ℕ)) → Gives l m bytes → whole ++ z ≡ bytes ++ 10 ∷ [] → Ends new_desk whole s t → (n : ℕ) × Answered l m s t (first_lines n) []
+ended-part bytes whole z l m s t h e p =
+    let is : p.front ++ (p.back ++ z) ≡ bytes ++ 10 ∷ [] = sym (append_assoc p.front p.back z) ∙ ap (λ x. x ++ z) p.is ∙ e in (
+      length p.front,
+      record {
+        bytes = bytes;
+        given = h;
+        out = p.out;
+        written = takes-last s t p.out p.written;
+        replay = is-replay (first_lines (length p.front) bytes) p.lost p.out (ap (λ x. replay_text new_lake (lines_of x) p.lost) (first-front p.front (p.back ++ z) bytes is) ∙ p.text);
+      },
+    )
+
+broken-part : (bytes whole z : List ℕ) (l m s t : Option (List ℕ)) → Gives l m bytes → whole ++ z ≡ bytes ++ 10 ∷ [] → Breaks new_desk whole s t → IsCutShort l m s t
+broken-part bytes whole z l m s t h e p = record {
+  bytes = bytes;
+  given = h;
+  front = p.front;
+  back = p.back ++ z;
+  is = sym (append_assoc p.front p.back z) ∙ ap (λ x. x ++ z) p.is ∙ e;
+  lost = p.lost;
+  status = Good;
+  out = p.out;
+  written = p.written;
+  missing = p.missing;
+  replay = sym p.text ∙ sym (append-nil (replay_text new_lake (lines_of p.front) p.lost));
+}
+
+-- a piece at which the run halts
+pub turn-halts : (x : Halt) (d : Desk) (n : ℕ) (l m o s t u : Option (List ℕ)) → Moves new_desk d n l m s t → TurnHalts x d m o t u → Halts x l o s u
+turn-halts halt.Read d n l m o s t u p q =
+    let all : Moves new_desk d (n + 0) l o s u = moves-then new_desk d d n 0 l m o s t u p q in
+    answered-by d all.bytes l o s u all.given all.answered
+turn-halts halt.Write d n l m o s t u p q =
+    broken-part (p.bytes ++ q.bytes) (p.bytes ++ q.bytes) (10 ∷ []) l o s u (Gives-then l m o p.bytes q.bytes p.given q.given) refl (breaks-then new_desk d p.bytes q.bytes s t u p.answered q.stopped)
+turn-halts halt.Memory d n l m o s t u p q =
+    ended-part (p.bytes ++ q.bytes) (p.bytes ++ q.bytes) (10 ∷ []) l o s u (Gives-then l m o p.bytes q.bytes p.given q.given) refl (ends-then new_desk d p.bytes q.bytes s t u p.answered q.stopped)
+turn-halts halt.TooLong d n l m o s t u p q = absurd q
+
+-- the end at which the run halts
+pub finish-halts : (x : Halt) (d : Desk) (n : ℕ) (l m s t u : Option (List ℕ)) → Moves new_desk d n l m s t → FinishHalts x d t u → Halts x l m s u
+finish-halts halt.Read d n l m s t u p q = absurd q
+finish-halts halt.Write d n l m s t u p q =
+    broken-part p.bytes (p.bytes ++ 10 ∷ []) [] l m s u p.given (append-nil (p.bytes ++ 10 ∷ [])) (breaks-then new_desk d p.bytes (10 ∷ []) s t u p.answered q)
+finish-halts halt.Memory d n l m s t u p q =
+    ended-part p.bytes (p.bytes ++ 10 ∷ []) [] l m s u p.given (append-nil (p.bytes ++ 10 ∷ [])) (ends-then new_desk d p.bytes (10 ∷ []) s t u p.answered q)
+finish-halts halt.TooLong d n l m s t u p q = absurd q
+
+-- the end of the input past the most of a script
+pub moves-end : (d : Desk) (n : ℕ) (l m o s t : Option (List ℕ)) → Moves new_desk d n l m s t → Gives m o [] → Moves new_desk d n l o s t
+moves-end d n l m o s t p h =
+    let P : List ℕ → Type 0 = λ x. Gives l o x in
+    record { bytes = p.bytes; counts = p.counts; given = subst P (append-nil p.bytes) (Gives-then l m o p.bytes [] p.given h); answered = p.answered }
+
+-- nothing is read and nothing is written
+pub halts-none : (l s : Option (List ℕ)) → Halts halt.Memory l l s s
+halts-none l s = (0, record { bytes = []; given = Gives-nothing l; out = []; written = Takes-nothing s; replay = refl })
+
+-- the last line is written
+answered-last : (l m s t u : Option (List ℕ)) (lines : List ℕ → List Line) (last : List ℕ) → Answered l m s t lines [] → Takes t u last → Answered l m s u lines last
+answered-last l m s t u lines last p h = record {
+  bytes = p.bytes;
+  given = p.given;
+  out = p.out;
+  written = Takes-then s t u p.out last (takes-plain s t p.out p.written) h;
+  replay = p.replay;
+}
+
+cut-last : (l m s t u : Option (List ℕ)) (lines : List ℕ → List Line) (status : Status) (n : ℕ) (p : Answered l m s t lines []) (front back : List ℕ) → front ++ back ≡ p.bytes ++ 10 ∷ [] → lines p.bytes ≡ lines_of front → Takes t u (take n (last_line status)) → IsCutShort l m s u
+cut-last l m s t u lines status n p front back is e h = record {
+  bytes = p.bytes;
+  given = p.given;
+  front = front;
+  back = back;
+  is = is;
+  lost = lost_in p.out;
+  status = status;
+  out = p.out ++ take n (last_line status);
+  written = Takes-then s t u p.out (take n (last_line status)) (takes-plain s t p.out p.written) h;
+  missing = drop n (last_line status);
+  replay = append_assoc p.out (take n (last_line status)) (drop n (last_line status)) ∙ ap (λ x. p.out ++ x) (take-append-drop n (last_line status)) ∙ ap (λ x. x ++ last_line status) (p.replay ∙ ap (λ x. replay_text new_lake x (lost_in p.out)) e);
+}
+
+pub outcome-told : (x : Halt) (l m s t u : Option (List ℕ)) → Halts x l m s t → Takes t u (last_line (status_of x)) → Outcome (status_of x) l m s u
+outcome-told halt.Read l m s t u p h = answered-last l m s t u lines_of _ p h
+outcome-told halt.Write l m s t u p h =
+    let P : List ℕ → Type 0 = λ x. Takes s u x in
+    record {
+      bytes = p.bytes;
+      given = p.given;
+      front = p.front;
+      back = p.back;
+      is = p.is;
+      lost = p.lost;
+      status = p.status;
+      out = p.out;
+      written = subst P (append-nil p.out) (Takes-then s t u p.out [] p.written h);
+      missing = p.missing;
+      replay = p.replay;
+    }
+outcome-told halt.Memory l m s t u p h = (p.0, answered-last l m s t u (first_lines p.0) _ p.1 h)
+outcome-told halt.TooLong l m s t u p h = answered-last l m s t u lines_within_most _ p h
+
+takes-nothing : (n : ℕ) (t u : Option (List ℕ)) → Takes t u (take n []) → Takes t u []
+takes-nothing n t u h = let P : List ℕ → Type 0 = λ x. Takes t u x in subst P (take-nil n) h
+
+pub outcome-cut : (x : Halt) (n : ℕ) (l m s t u : Option (List ℕ)) → Halts x l m s t → Takes t u (take n (last_line (status_of x))) → IsCutShort l m s u
+outcome-cut halt.Read n l m s t u p h = cut-last l m s t u lines_of (status_of halt.Read) n p p.bytes (10 ∷ []) refl refl h
+outcome-cut halt.Write n l m s t u p h = outcome-told halt.Write l m s t u p (takes-nothing n t u h)
+outcome-cut halt.Memory n l m s t u p h =
+    cut-last l m s t u (first_lines p.0) (status_of halt.Memory) n p.1 (take p.0 (p.1.bytes ++ 10 ∷ [])) (drop p.0 (p.1.bytes ++ 10 ∷ [])) (take-append-drop p.0 (p.1.bytes ++ 10 ∷ [])) refl h
+outcome-cut halt.TooLong n l m s t u p h =
+    cut-last l m s t u lines_within_most (status_of halt.TooLong) n p (take most_bytes p.bytes) (drop most_bytes p.bytes ++ 10 ∷ []) (sym (append_assoc (take most_bytes p.bytes) (drop most_bytes p.bytes) (10 ∷ [])) ∙ ap (λ x. x ++ 10 ∷ []) (take-append-drop most_bytes p.bytes)) refl h
+
+-- the run reads nothing, and its usage line is cut short
+pub usage-cut : (n : ℕ) (status : Status) (l s t : Option (List ℕ)) → Takes s t (take n (last_line status)) → IsCutShort l l s t
+usage-cut n status l s t h = record {
+  bytes = [];
+  given = Gives-nothing l;
+  front = [];
+  back = 10 ∷ [];
+  is = refl;
+  lost = [];
+  status = status;
+  out = take n (last_line status);
+  written = h;
+  missing = drop n (last_line status);
+  replay = take-append-drop n (last_line status);
+}
+
+is-write : (r : Status) → (r ≡ WriteFault) ⊎ (r ≢ WriteFault)
+is-write Good = inr (λ e. cc)
+is-write Usage = inr (λ e. cc)
+is-write ReadFault = inr (λ e. cc)
+is-write WriteFault = inl refl
+is-write Memory = inr (λ e. cc)
+is-write TooLong = inr (λ e. cc)
+
+-- what is left of the last line's fault is the outcome
+pub outcome-halt : (x : Halt) (r : Status) (l m s t u : Option (List ℕ)) → Halts x l m s t → (r ≢ WriteFault → (r ≡ status_of x) × Takes t u (last_line (status_of x))) → (r ≡ WriteFault → (n : ℕ) × Takes t u (take n (last_line (status_of x)))) → Outcome r l m s u
+outcome-halt x r l m s t u p whole part =
+    let P : Status → Type 0 = λ y. Outcome y l m s u in
+    elim (is-write r) [
+      | inl e ↦ subst P (sym e) (outcome-cut x (part e).0 l m s t u p (part e).1)
+      | inr ne ↦ subst P (sym (whole ne).0) (outcome-told x l m s t u p (whole ne).1)
+    ]
+
+pub outcome-usage : (r : Status) (l s t : Option (List ℕ)) → (r ≢ WriteFault → (r ≡ Usage) × Takes s t (last_line Usage)) → (r ≡ WriteFault → (n : ℕ) × Takes s t (take n (last_line Usage))) → Outcome r l l s t
+outcome-usage r l s t whole part =
+    let P : Status → Type 0 = λ y. Outcome y l l s t in
+    elim (is-write r) [
+      | inl e ↦ subst P (sym e) (usage-cut (part e).0 Usage l s t (part e).1)
+      | inr ne ↦ subst P (sym (whole ne).0) (whole ne).1
+    ]

@@ -1,0 +1,85 @@
+-- What a run has read of its source and written to its sink.
+use Rattle.std.specs.Prelude.{◌≡◌, ℕ, Bool, true, false, List, [], ◌∷◌, ◌++◌, Option, codes}
+use Rattle.lake_io.specs.Told.{Gives, IsAtEnd, Takes}
+use Rattle.lake_model.specs.Lake.{new_lake}
+use Rattle.lake_model.specs.Replay.{Line, IsReplay, replay_text}
+use Rattle.lake_top.specs.Desk.{Desk, Moves, Stops, StopsOff}
+use Rattle.lake_top.specs.Script.{first_lines, lines_of, lines_within_most, script_lines}
+use Rattle.lake_top.specs.declared.desk.Stop.TheVariants as stop
+use Rattle.lake_top.specs.declared.halt.Halt.{Halt}
+use Rattle.lake_top.specs.declared.halt.Halt.TheVariants as halt
+use Rattle.lake_top.specs.declared.status.Status.{Status}
+use Rattle.lake_top.specs.declared.status.Status.TheVariants.{Good, Usage, ReadFault, WriteFault, Memory, TooLong}
+
+-- The run has answered these lines of the bytes that its source gave: the sink took the text of their replay from
+-- the new lake, and behind it the last line.
+pub record Answered (left left' taken taken' : Option (List ℕ)) (lines : List ℕ → List Line) (last : List ℕ) : Type 0 where
+  pub bytes : List ℕ
+  pub given : Gives left left' bytes
+  pub out : List ℕ
+  pub written : Takes taken taken' (out ++ last)
+  pub replay : IsReplay new_lake (lines bytes) out
+
+-- the last line that a status has
+abbrev pub last_line : Status → List ℕ
+last_line Good = []
+last_line Usage = codes "! usage: lake [--inline 0..1000] [--target 1..1000000] [--gen SEED] [--count 0..20000]\n"
+last_line ReadFault = codes "! read fault\n"
+last_line WriteFault = []
+last_line Memory = codes "! no memory\n"
+last_line TooLong = codes "! too long\n"
+
+-- The run was cut short while it wrote: what the sink took stands at the front of the replay of the first lines of
+-- the bytes that its source gave, whose end counts as a line feed, with the last line of some status behind it.
+pub record IsCutShort (left left' taken taken' : Option (List ℕ)) : Type 0 where
+  pub bytes : List ℕ
+  pub given : Gives left left' bytes
+  pub front : List ℕ
+  pub back : List ℕ
+  pub is : front ++ back ≡ bytes ++ 10 ∷ []
+  pub lost : List Bool
+  pub status : Status
+  pub out : List ℕ
+  pub written : Takes taken taken' out
+  pub missing : List ℕ
+  pub replay : out ++ missing ≡ replay_text new_lake (lines_of front) lost ++ last_line status
+
+-- What a run has read and written, by the status that it ends with.
+abbrev pub Outcome : Status → Option (List ℕ) → Option (List ℕ) → Option (List ℕ) → Option (List ℕ) → Type 0
+Outcome Good left left' taken taken' = IsAtEnd left' × Answered left left' taken taken' script_lines (last_line Good)
+Outcome Usage left left' taken taken' = Takes taken taken' (last_line Usage)
+Outcome ReadFault left left' taken taken' = Answered left left' taken taken' lines_of (last_line ReadFault)
+Outcome WriteFault left left' taken taken' = IsCutShort left left' taken taken'
+Outcome Memory left left' taken taken' = (n : ℕ) × Answered left left' taken taken' (first_lines n) (last_line Memory)
+Outcome TooLong left left' taken taken' = Answered left left' taken taken' lines_within_most (last_line TooLong)
+
+-- the same before the last line is written
+abbrev pub Halts : Halt → Option (List ℕ) → Option (List ℕ) → Option (List ℕ) → Option (List ℕ) → Type 0
+Halts halt.Read left left' taken taken' = Answered left left' taken taken' lines_of []
+Halts halt.Write left left' taken taken' = IsCutShort left left' taken taken'
+Halts halt.Memory left left' taken taken' = (n : ℕ) × Answered left left' taken taken' (first_lines n) []
+Halts halt.TooLong left left' taken taken' = Answered left left' taken taken' lines_within_most []
+
+abbrev pub status_of : Halt → Status
+status_of halt.Read = ReadFault
+status_of halt.Write = WriteFault
+status_of halt.Memory = Memory
+status_of halt.TooLong = TooLong
+
+-- what one piece and the end of the input come to where the run halts there
+abbrev pub TurnHalts : Halt → Desk → Option (List ℕ) → Option (List ℕ) → Option (List ℕ) → Option (List ℕ) → Type 0
+TurnHalts halt.Read old left left' taken taken' = Moves old old 0 left left' taken taken'
+TurnHalts halt.Write old left left' taken taken' = StopsOff stop.Write old left left' taken taken'
+TurnHalts halt.Memory old left left' taken taken' = StopsOff stop.Memory old left left' taken taken'
+TurnHalts halt.TooLong old left left' taken taken' = ⊥
+
+abbrev pub FinishHalts : Halt → Desk → Option (List ℕ) → Option (List ℕ) → Type 0
+FinishHalts halt.Read old taken taken' = ⊥
+FinishHalts halt.Write old taken taken' = Stops stop.Write old (10 ∷ []) taken taken'
+FinishHalts halt.Memory old taken taken' = Stops stop.Memory old (10 ∷ []) taken taken'
+FinishHalts halt.TooLong old taken taken' = ⊥
+
+-- whether a source has given more bytes, or is at its end
+abbrev pub GivesMore : Bool → Option (List ℕ) → Option (List ℕ) → Type 0
+GivesMore true left left' = (bytes : List ℕ) × Gives left left' bytes
+GivesMore false left left' = IsAtEnd left' × Gives left left' []
