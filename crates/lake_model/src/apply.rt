@@ -329,13 +329,13 @@ fn table_id(next: u64, created: &[Creation], at: Ref) -> Result<u64, AllocError>
 fn left(alloc: Global, fresh: Listed<Option<CellValues>>) -> Result<Listed<CellValues>, AllocError>
     ensures { IfOk result (λ rows. rows ≡ spec.left fresh) }
 {
-    let mut rows = Listed::new(alloc);
+    let mut rows = Vec::new(alloc);
     for row in fresh.into_vec() {
         if let Some(cells) = row {
             rows.push(cells)?;
         }
     }
-    Ok(rows)
+    Ok(Listed::from_vec(rows))
 }
 
 #[tactic(auto, using(crate::proofs::ApplyLemmas::numbered_rows))]

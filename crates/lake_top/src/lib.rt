@@ -8,3 +8,7 @@ mod status;
 mod top;
 
 pub use status::Status;
+pub use top::run;
+
+#[cfg(test)]
+mod tests;

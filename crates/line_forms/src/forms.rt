@@ -100,11 +100,7 @@ fn column_in(alloc: Global, name: &Token, ty: &Token) -> Result<Option<ColumnDef
 fn at_end(columns: ColumnDefs, rest: &[Token]) -> Option<ColumnDefs>
     ensures { result ≡ spec.with_columns columns (spec.at_end rest.now) }
 {
-    if rest.is_empty() {
-        Some(columns)
-    } else {
-        None
-    }
+    if rest.is_empty() { Some(columns) } else { None }
 }
 
 /// The tokens of a column, the sign behind it, and the tokens behind that.
@@ -274,10 +270,18 @@ fn form_of(alloc: Global, tokens: &[Token]) -> Result<Option<Stmt>, AllocError>
         return Ok(None);
     };
     if spells(first, b"BEGIN") {
-        return Ok(if rest.is_empty() { Some(Stmt::Begin) } else { None });
+        return Ok(if rest.is_empty() {
+            Some(Stmt::Begin)
+        } else {
+            None
+        });
     }
     if spells(first, b"COMMIT") {
-        return Ok(if rest.is_empty() { Some(Stmt::Commit) } else { None });
+        return Ok(if rest.is_empty() {
+            Some(Stmt::Commit)
+        } else {
+            None
+        });
     }
     if spells(first, b"CREATE") {
         return create_form(alloc, rest);

@@ -8,6 +8,3 @@ mod tokens;
 
 pub use forms::stmt_of;
 pub use lines::{is_skipped, session_of, shorn};
-
-#[cfg(test)]
-mod tests;

@@ -87,7 +87,10 @@ fn number_at(alloc: Global, b: u8, rest: &[u8]) -> Result<(Token, usize), AllocE
 {
     let len = digits_len(rest);
     let digits = run_of(alloc, b, rest, len)?;
-    Ok((Token::Number(signed(false, number_of(digits.as_slice()))), len))
+    Ok((
+        Token::Number(signed(false, number_of(digits.as_slice()))),
+        len,
+    ))
 }
 
 #[tactic(auto, using(crate::proofs::DigitLemmas::numbers))]

@@ -103,10 +103,10 @@ pub fn has_room(own: &[Change], rows: &[CellValues]) -> bool
 pub fn shown_rows(alloc: Global, table: &Table) -> Result<WordsList, AllocError>
     ensures { IfOk result (λ rows. rows ≡ spec.shown_rows table.now) }
 {
-    let mut rows = Listed::new(alloc);
+    let mut rows = Vec::new(alloc);
     for row in table.rows.as_slice() {
         let text = row_text(alloc, table.columns.as_slice(), row.cells.as_slice())?;
         rows.push(Words::from_string(text))?;
     }
-    Ok(rows)
+    Ok(Listed::from_vec(rows))
 }

@@ -4,4 +4,4 @@ use Rattle.lake_model.proofs.apply.left.Given as goal
 
 -- the rows so far
 abbrev pub invariant-loop-row : goal.invariant-loop-row
-invariant-loop-row l = l.rows ≡ spec.left l.yielded
+invariant-loop-row l = l.rows.items ≡ spec.left l.yielded

@@ -4,4 +4,4 @@ use Rattle.plain_lake.proofs.rows.shown_rows.Given as goal
 
 -- the rows so far
 abbrev pub invariant-loop-row : goal.invariant-loop-row
-invariant-loop-row l = l.rows ≡ map (λ row. row_text l.table.columns row.cells) (take l.row-index l.row-items)
+invariant-loop-row l = l.rows.items ≡ map (λ row. row_text l.table.columns row.cells) (take l.row-index l.row-items)
