@@ -65,6 +65,13 @@ impl FaultInjector {
         }
     }
 
+    /// How many calls have failed.
+    pub fn faults(&self) -> u64
+        ensures { result ≡ self.now.faults }
+    {
+        self.faults
+    }
+
     /// Counts one more call, and answers whether it fails.
     pub fn count_call(&mut self) -> Result<(), Failed>
         ensures counts { self.new ≡ after_call self.old }

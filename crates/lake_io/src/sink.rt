@@ -134,6 +134,13 @@ impl MemSink {
     {
         self.sink.bytes()
     }
+
+    /// How often it has failed.
+    pub fn faults(&self) -> u64
+        ensures { result ≡ self.now.injected.faults }
+    {
+        self.injector.faults()
+    }
 }
 
 impl Sink for MemSink {

@@ -116,6 +116,13 @@ impl MemSource {
             injector: FaultInjector::new(fails),
         }
     }
+
+    /// How often it has failed.
+    pub fn faults(&self) -> u64
+        ensures { result ≡ self.now.injected.faults }
+    {
+        self.injector.faults()
+    }
 }
 
 impl Source for MemSource {
