@@ -1,11 +1,13 @@
 -- Which calls of a device in memory fail.
-use Rattle.std.specs.Prelude.{◌≡◌, ◌⊎◌, ◌≤◌, ◌↔◌, ℕ, Contains, IsSomeAnd, Result, IsErr, OnOk, OnErr}
+use Rattle.std.specs.Prelude.{◌==◌, ◌||◌, ℕ, Bool, false, nat_le, if◌then◌else◌}
+use Rattle.std.specs.List.{list_any}
+use Rattle.std.specs.Option.{option_map_or}
 use Rattle.lake_io.specs.Causes.{raised}
 use Rattle.lake_io.specs.declared.faults.FailList.{FailList}
 
--- the list names the call with this number, or a call up to it from which on all fail
-abbrev pub Lists : FailList → ℕ → Type 0
-Lists fails call = Contains fails.calls.items call ⊎ IsSomeAnd fails.from (λ from. from ≤ call)
+-- whether the list names the call with this number, or a call up to it from which on all fail
+abbrev pub is_listed : FailList → ℕ → Bool
+is_listed fails call = list_any (λ n. n == call) fails.calls.items || option_map_or (λ from. nat_le from call) fails.from false
 
 -- a list, how many calls were made under it, and how many of them failed
 pub record Injected : Type 0 where
@@ -13,11 +15,14 @@ pub record Injected : Type 0 where
   pub calls : ℕ
   pub faults : ℕ
 
--- one more call: it fails exactly where the list names it, and the faults rise there and nowhere else
-pub record Counts {T E : Type 0} (old new : Injected) (result : Result T E) : Type 0 where
-  pub fails : new.fails ≡ old.fails
-  pub calls : new.calls ≡ raised old.calls
-  pub listed : IsErr result ↔ Lists old.fails new.calls
-  pub later : old.faults ≤ new.faults
-  pub ok : OnOk result (new.faults ≡ old.faults)
-  pub err : OnErr result (new.faults ≡ raised old.faults)
+-- whether the next call fails
+abbrev pub fails_next : Injected → Bool
+fails_next injected = is_listed injected.fails (raised injected.calls)
+
+-- after one more call: the faults rise where it fails, and nowhere else
+abbrev pub after_call : Injected → Injected
+after_call injected = record {
+  fails = injected.fails;
+  calls = raised injected.calls;
+  faults = if fails_next injected then raised injected.faults else injected.faults;
+}

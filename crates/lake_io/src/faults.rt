@@ -1,4 +1,5 @@
-ghost use Rattle.std.specs.Prelude.{◌≡◌, ◌↔◌, IsTrue};
+ghost use Rattle.std.specs.Prelude.{◌≡◌, ◌↔◌, IsTrue, IsErr};
+ghost use Rattle.lake_io.specs.Causes.{HasCause};
 
 use std::marker::Model;
 use thiserror::Error;
@@ -18,11 +19,11 @@ pub struct FailList {
 }
 
 impl FailList {
-    ghost use Rattle.lake_io.specs.FailList.{Lists};
+    ghost use Rattle.lake_io.specs.FailList.{is_listed};
 
     /// Whether the call with this number fails.
     pub fn lists(&self, call: u64) -> bool
-        ensures { IsTrue result ↔ Lists self.now call }
+        ensures { result ≡ is_listed self.now call }
     {
         if self.calls.contains(&call) {
             return true;
@@ -51,7 +52,7 @@ impl Model for FaultInjector {
 }
 
 impl FaultInjector {
-    ghost use Rattle.lake_io.specs.FailList.{Injected, Counts};
+    ghost use Rattle.lake_io.specs.FailList.{fails_next, after_call};
 
     /// No call has been made.
     pub fn new(fails: FailList) -> FaultInjector
@@ -64,9 +65,18 @@ impl FaultInjector {
         }
     }
 
+    /// How many calls have failed.
+    pub fn faults(&self) -> u64
+        ensures { result ≡ self.now.faults }
+    {
+        self.faults
+    }
+
     /// Counts one more call, and answers whether it fails.
     pub fn count_call(&mut self) -> Result<(), Failed>
-        ensures { Counts self.old self.new result }
+        ensures counts { self.new ≡ after_call self.old }
+        ensures fails { IsErr result ↔ IsTrue (fails_next self.old) }
+        ensures cause { HasCause self.old.faults self.new.faults result }
     {
         self.calls = self.calls.saturating_add(1);
         if self.fails.lists(self.calls) {

@@ -1,4 +1,4 @@
-ghost use Rattle.std.specs.Prelude.{◌≡◌, ℕ, List, [], Option, ◌<◌, ◌≤◌, length, Ok, IfOk, OnOk, OnErr, take};
+ghost use Rattle.std.specs.Prelude.{◌≡◌, ℕ, List, [], Option, ◌<◌, ◌≤◌, ◌↔◌, length, Ok, IsTrue, IsErr, IfOk, OnOk, OnErr, take};
 ghost use Rattle.lake_io.specs.Causes.{HasCause};
 ghost use Rattle.lake_io.specs.Told.{Takes, bytes_moved};
 
@@ -134,10 +134,17 @@ impl MemSink {
     {
         self.sink.bytes()
     }
+
+    /// How often it has failed.
+    pub fn faults(&self) -> u64
+        ensures { result ≡ self.now.injected.faults }
+    {
+        self.injector.faults()
+    }
 }
 
 impl Sink for MemSink {
-    ghost use Rattle.lake_io.specs.FailList.{Counts};
+    ghost use Rattle.lake_io.specs.FailList.{fails_next, after_call};
     ghost use Rattle.lake_io.specs.Memory.{taken_by, sink_after};
 
     ghost taken = { λ s. taken_by s.bytes };
@@ -147,7 +154,8 @@ impl Sink for MemSink {
     /// Fails at exactly the calls of its list, and else takes the whole piece as a `SureSink` does.
     fn write(&mut self, piece: &[u8]) -> Result<usize, Failed>
         requires { 0 < length piece.now }
-        ensures counts { Counts self.old.injected self.new.injected result }
+        ensures counts { self.new.injected ≡ after_call self.old.injected }
+        ensures fails { IsErr result ↔ IsTrue (fails_next self.old.injected) }
         ensures whole { IfOk result (λ n. n ≡ length piece.now) }
         ensures kept { OnOk result (self.new.bytes ≡ sink_after self.old.bytes piece.now) }
         ensures failed { OnErr result (self.new.bytes ≡ self.old.bytes) }

@@ -1,4 +1,4 @@
-ghost use Rattle.std.specs.Prelude.{◌≡◌, ℕ, List, Option, Some, ◌<◌, ◌≤◌, length, IfOk, min, take};
+ghost use Rattle.std.specs.Prelude.{◌≡◌, ℕ, List, Option, Some, ◌<◌, ◌≤◌, ◌↔◌, length, IsTrue, IsErr, IfOk, min, take};
 ghost use Rattle.lake_io.specs.Causes.{HasCause};
 ghost use Rattle.lake_io.specs.Told.{Gives, IsAtEnd, bytes_moved, count_after};
 
@@ -116,10 +116,17 @@ impl MemSource {
             injector: FaultInjector::new(fails),
         }
     }
+
+    /// How often it has failed.
+    pub fn faults(&self) -> u64
+        ensures { result ≡ self.now.injected.faults }
+    {
+        self.injector.faults()
+    }
 }
 
 impl Source for MemSource {
-    ghost use Rattle.lake_io.specs.FailList.{Counts};
+    ghost use Rattle.lake_io.specs.FailList.{fails_next, after_call};
 
     ghost left = { λ s. Some s.bytes.left };
 
@@ -130,7 +137,8 @@ impl Source for MemSource {
     /// Fails at exactly the calls of its list, and else gives as many bytes as are left and fit.
     fn read(&mut self, into: &mut [u8]) -> Result<usize, Failed>
         requires { 0 < length into.old }
-        ensures counts { Counts self.old.injected self.new.injected result }
+        ensures counts { self.new.injected ≡ after_call self.old.injected }
+        ensures fails { IsErr result ↔ IsTrue (fails_next self.old.injected) }
         ensures count { IfOk result (λ n. n ≡ min (length self.old.bytes.left) (length into.old)) }
         ensures bound { IfOk result (λ n. n ≤ length into.new) }
         ensures bytes { Gives (Some self.old.bytes.left) (Some self.new.bytes.left) (bytes_moved result into.new) }

@@ -32,6 +32,7 @@ fn source_fails_at_its_calls(rt: HostRuntime) -> Result<(), Fail> {
         assert_eq!(rt; source.read(&mut into), answer);
     }
     assert_eq!(rt; into, [b'd', b'b', b'c']);
+    assert_eq!(rt; source.faults(), 4);
     Ok(())
 }
 
@@ -57,6 +58,7 @@ fn sinks_keep_what_fits(rt: HostRuntime) -> Result<(), Fail> {
     }
     assert_eq!(rt; sure.bytes(), b"abcd".as_slice());
     assert_eq!(rt; sink.bytes(), b"abcf".as_slice());
+    assert_eq!(rt; sink.faults(), 1);
     Ok(())
 }
 

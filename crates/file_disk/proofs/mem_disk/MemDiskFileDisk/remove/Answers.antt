@@ -1,0 +1,9 @@
+use Rattle.std.proofs.Common.{ap, inl, refl}
+use Rattle.file_disk.specs.Folder.{StaysOrGoes}
+use Rattle.file_disk.specs.Memory.{FailingPart}
+use Rattle.file_disk.proofs.ImageLemmas.{Touches-same}
+use Rattle.file_disk.proofs.mem_disk.MemDiskFileDisk.remove.Goals as goal
+
+-- a call that fails changes nothing
+pub returns-in_err-count_call-clause-images : goal.returns-in_err-count_call-clause-images
+returns-in_err-count_call-clause-images c = Touches-same StaysOrGoes _ _ _ (λ x. inl refl) (ap (λ (p : FailingPart). p.all) c.self.view_is)

@@ -1,0 +1,4 @@
+pub mod Folder
+pub mod Calls
+pub mod Memory
+pub mod Laws
