@@ -1,0 +1,20 @@
+use Rattle.std.proofs.Common.{◌*◌, ◌++◌, ◌∷◌, [], ◌∙◌, ap, drop, arith}
+use Rattle.pq_encodings.specs.Bits.{packed_number}
+use Rattle.pq_encodings.proofs.BitLemmas.{one_more, packed-in_word}
+use Rattle.pq_encodings.proofs.bits.push_group.Goals as goal
+
+pub loop-k-preserved : goal.loop-k-preserved
+loop-k-preserved c =
+    let kept = c.loop-k.invariant.0 in
+    let rest = drop c.args.at c.args.bytes.now in (
+      record {
+        room = omega arith;
+        longer = omega arith;
+        items = c.push_reserved.ensures.items
+            ∙ ap (λ v. c.loop-k.out.items ++ v ∷ []) (c.bits_of.ensures
+            ∙ packed-in_word c.args.bytes.now (λ k. omega (arith, c.type_inv.bytes k)) c.args.at c.loop-k.k c.args.width c.word_at-word.result c.requires.width c.loop-k-test.true c.word_at-word.ensures)
+            ∙ ap (λ xs. xs ++ packed_number c.args.width rest (c.loop-k.k * c.args.width) ∷ []) kept.items
+            ∙ one_more (λ i. packed_number c.args.width rest (i * c.args.width)) c.args.out.now.items c.loop-k.k;
+      },
+      omega arith,
+    )

@@ -1,0 +1,30 @@
+use Rattle.std.proofs.Common.{◌+◌, ◌*◌, ◌++◌, [], ◌∷◌, ◌∙◌, ap, drop, length, arith}
+use Rattle.pq_encodings.specs.Bits.{packed_number, packed_numbers}
+use Rattle.pq_encodings.proofs.BitLemmas.{group_within, held_before, one_group_more, one_more}
+use Rattle.pq_encodings.proofs.bits.push_packed.Goals as goal
+
+pub loop-group-preserved : goal.loop-group-preserved
+loop-group-preserved c =
+    let kept = c.loop-group.invariant in
+    record {
+      room = omega arith;
+      longer = omega arith;
+      items = c.push_group.ensures.items
+          ∙ ap (λ xs. xs ++ packed_numbers c.args.width (drop (c.loop-group.group * c.args.width) c.args.bytes.now) 8) kept.items
+          ∙ one_group_more c.args.out.now.items c.args.bytes.now c.args.width c.loop-group.group;
+    }
+
+pub packed_at-requires-clause-held : goal.packed_at-requires-clause-held
+packed_at-requires-clause-held c = held_before c.loop-k.k c.args.width c.args.count (length c.args.bytes.now) (omega arith) c.requires.held
+
+pub loop-k-preserved : goal.loop-k-preserved
+loop-k-preserved c =
+    let kept = c.loop-k.invariant in
+    record {
+      room = omega arith;
+      longer = omega arith;
+      items = c.push_reserved.ensures.items
+          ∙ ap (λ v. c.loop-k.own.items ++ v ∷ []) c.packed_at.ensures
+          ∙ ap (λ xs. xs ++ packed_number c.args.width c.args.bytes.now (c.loop-k.k * c.args.width) ∷ []) kept.items
+          ∙ one_more (λ i. packed_number c.args.width c.args.bytes.now (i * c.args.width)) c.args.out.now.items c.loop-k.k;
+    }
