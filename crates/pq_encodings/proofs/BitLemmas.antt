@@ -103,14 +103,24 @@ packed-in_group bytes small k width word h e =
     ∙ packed-drop bytes at width shift
     ∙ ap (λ first. packed_number width bytes first) (place_in_group k width)
 
--- number k of a group that fits one word
-pub packed-in_word : (bytes : List ℕ) → ((k : ℕ) → get_or bytes k 0 < 256) → (at k width word : ℕ) → width ≤ 8 → k < 8 →
-    word ≡ little_number 8 (drop at bytes) →
-    word / 2 ^ (k * width) % 2 ^ width ≡ packed_number width (drop at bytes) (k * width)
-packed-in_word bytes small at k width word narrow h e =
+-- number k of a group that lies in one word
+pub packed-in_word : (bytes : List ℕ) → ((k : ℕ) → get_or bytes k 0 < 256) → (k width word : ℕ) → width ≤ 8 → k < 8 →
+    word ≡ little_number 8 bytes →
+    word / 2 ^ (k * width) % 2 ^ width ≡ packed_number width bytes (k * width)
+packed-in_word bytes small k width word narrow h e =
     let most : k * width ≤ 7 * width = mul-le k width 7 width (omega arith) (omega arith) in
     ap (λ v. v / 2 ^ (k * width) % 2 ^ width) e
-    ∙ packed-of_word (drop at bytes) (small-drop bytes at small) (k * width) width (omega arith)
+    ∙ packed-of_word bytes small (k * width) width (omega arith)
+
+-- the number that begins with a bit, from the word at that bit's byte
+pub packed-at_bit : (bytes : List ℕ) → ((k : ℕ) → get_or bytes k 0 < 256) → (first width word : ℕ) → width ≤ 32 →
+    word ≡ little_number 8 (drop (first / 8) bytes) →
+    word / 2 ^ (first % 8) % 2 ^ width ≡ packed_number width bytes first
+packed-at_bit bytes small first width word h e =
+    ap (λ v. v / 2 ^ (first % 8) % 2 ^ width) e
+    ∙ packed-of_word (drop (first / 8) bytes) (small-drop bytes (first / 8) small) (first % 8) width (omega arith)
+    ∙ packed-drop bytes (first / 8) width (first % 8)
+    ∙ ap (λ n. packed_number width bytes n) (omega arith)
 
 -- one number more
 pub one_more : (f : ℕ → ℕ) (xs : List ℕ) (k : ℕ) → (xs ++ map f (range_with_len 0 k)) ++ f k ∷ [] ≡ xs ++ map f (range_with_len 0 (k + 1))

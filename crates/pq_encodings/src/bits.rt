@@ -9,6 +9,9 @@ ghost use Rattle.pq_encodings.specs.Bits.{packed_number, packed_numbers};
 use byteorder::{ByteOrder, LittleEndian};
 use std::mem;
 
+/// So many bytes hold a word from the first bit of each number of a group on: the last begins within byte 28.
+const WIDE_GROUP: usize = 36;
+
 /// The eight bytes from a place on, with zeros past the end.
 #[tactic(auto, using(crate::proofs::BitLemmas::word_rules))]
 fn word_at(bytes: &[u8], at: usize) -> u64
@@ -49,27 +52,69 @@ fn packed_at(bytes: &[u8], width: u32, k: usize) -> u32
     bits_of(word, inner % 8, width)
 }
 
-/// Appends a group of eight numbers that fit one word.
+/// Appends a group of eight numbers that lie in one word together.
 #[inline]
-fn push_group(out: &mut Vec<u32>, bytes: &[u8], at: usize, width: u32)
+fn push_narrow(out: &mut Vec<u32>, group: &[u8], width: u32)
     requires width { width ≤ 8 }
     requires room { vec_len out.old + 8 ≤ vec_capacity out.old }
     ensures len { vec_len out.new ≡ vec_len out.old + 8 }
     ensures capacity { vec_capacity out.new ≡ vec_capacity out.old }
-    ensures items { out.new.items ≡ out.old.items ++ packed_numbers width (drop at bytes.now) 8 }
+    ensures items { out.new.items ≡ out.old.items ++ packed_numbers width group.now 8 }
 {
-    let word = word_at(bytes, at);
+    let word = word_at(group, 0);
     for k in 0..8 {
         out.push_reserved(bits_of(word, k * width, width));
     }
 }
 
-/// How many groups of eight are read a word each: none where a group has more than 64 bits.
-fn word_groups(width: u32, count: usize) -> usize
-    ensures few { 8 * result ≤ count }
-    ensures narrow { 0 < result → width ≤ 8 }
+/// Appends a group of eight numbers of which each lies in a word of its own, with no test for the bytes' end.
+#[inline]
+fn push_wide(out: &mut Vec<u32>, group: &[u8], width: u32)
+    requires width { width ≤ 32 }
+    requires words { WIDE_GROUP ≤ length group.now }
+    requires room { vec_len out.old + 8 ≤ vec_capacity out.old }
+    ensures len { vec_len out.new ≡ vec_len out.old + 8 }
+    ensures capacity { vec_capacity out.new ≡ vec_capacity out.old }
+    ensures items { out.new.items ≡ out.old.items ++ packed_numbers width group.now 8 }
 {
-    if width <= 8 { count / 8 } else { 0 }
+    for k in 0..8 {
+        let first = k * width;
+        let (_, rest) = group.split_at((first / 8) as usize);
+        out.push_reserved(bits_of(LittleEndian::read_u64(rest), first % 8, width));
+    }
+}
+
+/// Appends a group of eight numbers one by one, up to the bytes' end.
+fn push_last(out: &mut Vec<u32>, group: &[u8], width: u32)
+    requires width { width ≤ 32 }
+    requires held { width ≤ length group.now }
+    requires room { vec_len out.old + 8 ≤ vec_capacity out.old }
+    ensures len { vec_len out.new ≡ vec_len out.old + 8 }
+    ensures capacity { vec_capacity out.new ≡ vec_capacity out.old }
+    ensures items { out.new.items ≡ out.old.items ++ packed_numbers width group.now 8 }
+{
+    for k in 0..8 {
+        out.push_reserved(packed_at(group, width, k));
+    }
+}
+
+/// Appends the first group of eight numbers.
+#[inline]
+fn push_group(out: &mut Vec<u32>, group: &[u8], width: u32)
+    requires width { width ≤ 32 }
+    requires held { width ≤ length group.now }
+    requires room { vec_len out.old + 8 ≤ vec_capacity out.old }
+    ensures len { vec_len out.new ≡ vec_len out.old + 8 }
+    ensures capacity { vec_capacity out.new ≡ vec_capacity out.old }
+    ensures items { out.new.items ≡ out.old.items ++ packed_numbers width group.now 8 }
+{
+    if width <= 8 {
+        push_narrow(out, group, width);
+    } else if group.len() >= WIDE_GROUP {
+        push_wide(out, group, width);
+    } else {
+        push_last(out, group, width);
+    }
 }
 
 /// Appends the first `count` numbers that stand packed.
@@ -83,9 +128,10 @@ pub fn push_packed(out: &mut Vec<u32>, bytes: &[u8], width: u32, count: usize)
     // A Vec of the function's own stays in registers; one behind a reference is read and written for each number.
     let alloc = *out.allocator();
     let mut own = mem::replace(out, Vec::new(alloc));
-    let groups = word_groups(width, count);
+    let groups = count / 8;
     for group in 0..groups {
-        push_group(&mut own, bytes, group * width as usize, width);
+        let (_, rest) = bytes.split_at(group * width as usize);
+        push_group(&mut own, rest, width);
     }
     for k in 8 * groups..count {
         own.push_reserved(packed_at(bytes, width, k));

@@ -3,6 +3,14 @@ use Rattle.pq_encodings.specs.Bits.{packed_number, packed_numbers}
 use Rattle.pq_encodings.proofs.BitLemmas.{group_within, held_before, one_group_more, one_more}
 use Rattle.pq_encodings.proofs.bits.push_packed.Goals as goal
 
+pub split_at-requires : goal.split_at-requires
+split_at-requires c = group_within c.loop-group.group c.args.width c.args.count (length c.args.bytes.now) (omega arith) c.requires.held
+
+pub push_group-requires-clause-held : goal.push_group-requires-clause-held
+push_group-requires-clause-held c =
+    let next = group_within (c.loop-group.group + 1) c.args.width c.args.count (length c.args.bytes.now) (omega arith) c.requires.held in
+    omega arith
+
 pub loop-group-preserved : goal.loop-group-preserved
 loop-group-preserved c =
     let kept = c.loop-group.invariant in
@@ -10,6 +18,7 @@ loop-group-preserved c =
       room = omega arith;
       longer = omega arith;
       items = c.push_group.ensures.items
+          ∙ ap (λ ys. c.loop-group.own.items ++ packed_numbers c.args.width ys 8) c.split_at.ensures.back
           ∙ ap (λ xs. xs ++ packed_numbers c.args.width (drop (c.loop-group.group * c.args.width) c.args.bytes.now) 8) kept.items
           ∙ one_group_more c.args.out.now.items c.args.bytes.now c.args.width c.loop-group.group;
     }

@@ -1,9 +1,0 @@
-use Rattle.std.proofs.Common.{◌≡◌, ◌++◌, drop, vec_len}
-use Rattle.std.specs.Vec.{vec_capacity}
-use Rattle.pq_encodings.proofs.BitLemmas.{Packs}
-use Rattle.pq_encodings.proofs.bits.push_group.Given as goal
-
-abbrev pub invariant-loop-k : goal.invariant-loop-k
-invariant-loop-k l =
-    (Packs l.width (drop l.at l.bytes) 8 l.k (vec_len l.out) (vec_capacity l.out) l.initial.out.items l.out.items)
-    × (vec_capacity l.out ≡ vec_capacity l.initial.out)
