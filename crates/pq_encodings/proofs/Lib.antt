@@ -1,6 +1,8 @@
+pub mod AnswerLemmas
 pub mod BitLemmas
 pub mod VarintLemmas
 pub mod RunLemmas
+pub mod GrammarLemmas
 pub mod IndexLemmas
 pub mod BoolLemmas
 pub mod PlainLemmas

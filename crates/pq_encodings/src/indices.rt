@@ -1,8 +1,9 @@
 //! Indices into a dictionary (Apache Parquet format, "Dictionary Encoding").
 
-ghost use Rattle.std.specs.Prelude.{◌≡◌, ◌<◌, ℕ, List, All, length, Ok, Err, Some, None, IfOk, MatchResult};
+ghost use Rattle.std.specs.Prelude.{◌≡◌, ◌<◌, ℕ, List, All, length, Ok, Err, Some, None, IfOk, IsOk, MatchResult};
 ghost use Rattle.std.specs.Vec.{vec_len};
 ghost use Rattle.pq_encodings.specs.Answers.{Gives};
+ghost use Rattle.pq_encodings.specs.Grammar.{HoldsIndices};
 ghost use Rattle.pq_encodings.specs.Indices.{bad_index, indices_in};
 ghost use Rattle.pq_encodings.specs.Indices as spec;
 ghost use Rattle.pq_encodings.specs.Runs.{Reading, Reads};
@@ -28,16 +29,24 @@ fn check(indices: &[u32], size: u64) -> Result<(), EncFault>
     Ok(())
 }
 
-/// The first `count` indices of the bytes, each below `size`: a byte of the width in bits, at most 32, then hybrid
-/// runs. Bytes may follow. Where no index is wanted, no byte is read.
-pub fn decode_indices(
-    alloc: Global,
-    bytes: &[u8],
-    count: u64,
-    size: u64,
-) -> Result<Vec<u32>, EncFault>
-    // The indices, or the first fault with its place.
+/// The indices, unless one isn't below the size or the reading ended at a fault.
+fn checked(indices: Vec<u32>, read: Result<(), EncFault>, size: u64) -> Result<Vec<u32>, EncFault>
+    ensures gives { (r : Reading) → Reads indices.items read r → Gives (λ v. v.items) result (spec.checked size r) }
+    ensures same { IfOk result (λ v. IsOk read × (v.items ≡ indices.items)) }
+{
+    match check(&indices, size) {
+        Ok(()) => match read {
+            Ok(()) => Ok(indices),
+            Err(e) => Err(e),
+        },
+        Err(e) => Err(e),
+    }
+}
+
+/// The first `count` indices, or the first fault.
+fn first_indices(alloc: Global, bytes: &[u8], count: u64, size: u64) -> Result<Vec<u32>, EncFault>
     ensures gives { Gives (λ v. v.items) result (indices_in bytes.now count size) }
+    ensures count { IfOk result (λ v. vec_len v ≡ count) }
 {
     let mut out = Vec::new(alloc);
     if count == 0 {
@@ -55,15 +64,22 @@ pub fn decode_indices(
     checked(out, read, size)
 }
 
-/// The indices, unless one isn't below the size or the reading ended at a fault.
-fn checked(indices: Vec<u32>, read: Result<(), EncFault>, size: u64) -> Result<Vec<u32>, EncFault>
-    ensures { (r : Reading) → Reads indices.items read r → Gives (λ v. v.items) result (spec.checked size r) }
+/// The first `count` indices of the bytes, each below `size`: a byte of the width in bits, at most 32, then hybrid
+/// runs. Bytes may follow. Where no index is wanted, no byte is read.
+pub fn decode_indices(
+    alloc: Global,
+    bytes: &[u8],
+    count: u64,
+    size: u64,
+) -> Result<Vec<u32>, EncFault>
+    // What is answered is held, and what is held is answered, unless memory runs out.
+    ensures held { IfOk result (λ v. HoldsIndices count size bytes.now v.items) }
+    ensures only { (xs : List ℕ) → HoldsIndices count size bytes.now xs → Gives (λ v. v.items) result (Ok xs) }
+
+    // Which fault it is, and its place.
+    ensures gives { Gives (λ v. v.items) result (indices_in bytes.now count size) }
+    ensures count { IfOk result (λ v. vec_len v ≡ count) }
+    ensures below { IfOk result (λ v. All (λ x. x < size) v.items) }
 {
-    match check(&indices, size) {
-        Ok(()) => match read {
-            Ok(()) => Ok(indices),
-            Err(e) => Err(e),
-        },
-        Err(e) => Err(e),
-    }
+    first_indices(alloc, bytes, count, size)
 }

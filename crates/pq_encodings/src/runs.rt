@@ -172,6 +172,19 @@ pub fn read_runs(
     Ok(())
 }
 
+/// The first `count` numbers of the runs at the front, or the first fault.
+fn first_numbers(alloc: Global, bytes: &[u8], width: u32, count: u64) -> Result<Vec<u32>, EncFault>
+    requires { width ≤ 32 }
+    ensures gives { Gives (λ v. v.items) result (levels_in width bytes.now count) }
+    ensures count { IfOk result (λ v. vec_len v ≡ count) }
+{
+    let mut out = Vec::new(alloc);
+    match read_runs(&mut out, bytes, width, count, 0) {
+        Ok(()) => Ok(out),
+        Err(e) => Err(e),
+    }
+}
+
 /// The first `count` numbers of `width` bits, at most 32, that stand as hybrid runs at the front of the bytes; bytes
 /// may follow. A repeated value is taken whole as its bytes are, so it may pass the width.
 ///
@@ -185,13 +198,14 @@ pub fn decode_levels(
 ) -> Result<Vec<u32>, EncFault>
     requires { width ≤ 32 }
 
-    // The values, or the first fault with its place.
+    // What is answered is held, and what is held is answered, unless memory runs out: so the bytes hold one list at
+    // most, and a fault says that they hold none.
+    ensures held { IfOk result (λ v. HoldsRuns width count bytes.now v.items) }
+    ensures only { (xs : List ℕ) → HoldsRuns width count bytes.now xs → Gives (λ v. v.items) result (Ok xs) }
+
+    // Which fault it is, and its place.
     ensures gives { Gives (λ v. v.items) result (levels_in width bytes.now count) }
     ensures count { IfOk result (λ v. vec_len v ≡ count) }
 {
-    let mut out = Vec::new(alloc);
-    match read_runs(&mut out, bytes, u32::from(width), count, 0) {
-        Ok(()) => Ok(out),
-        Err(e) => Err(e),
-    }
+    first_numbers(alloc, bytes, u32::from(width), count)
 }
