@@ -1,8 +1,15 @@
 -- The longest runs of equal values.
-use Rattle.std.proofs.Common.{◌≡◌, ℕ, zero, suc, ◌+◌, ◌*◌, ◌<◌, ◌≤◌, List, [], ◌∷◌, ◌++◌, length, drop, get_or, Bool, true, false, cond, refl, sym, ap, ◌∙◌, arith, append_assoc, add-one, drop-cons, nat_lt, ◌%◌, ◌/◌, ◌-◌, ◌^◌}
+use Rattle.std.proofs.Common.{◌≡◌, ℕ, zero, suc, ◌+◌, ◌*◌, ◌<◌, ◌≤◌, List, [], ◌∷◌, ◌++◌, length, drop, get_or, Bool, true, false, cond, refl, sym, ap, ◌∙◌, arith, append_assoc, add-one, map, subst, ◌⊎◌, inl, inr, drop-cons, nat_lt, ◌%◌, ◌/◌, ◌-◌, ◌^◌}
 use Rattle.std.proofs.lemmas.List.{append-nil, drop_all}
+use Rattle.std.proofs.lemmas.Bool.{cases_Bool}
+use Rattle.std.specs.List.{flat_map}
 use Rattle.std.specs.Prelude.{replicate}
-use Rattle.pq_encodings.specs.Levels.{Run, StartsOther, same, onto_run, runs_of, run_bytes, level_bytes}
+use Rattle.byteorder.specs.Endian.{little_number}
+use Rattle.pq_encodings.specs.Grammar.{HoldsRuns, IsHeader, repeated}
+use Rattle.pq_encodings.specs.Varint.{varint_bytes}
+use Rattle.pq_encodings.proofs.GrammarLemmas.{holds_nothing}
+use Rattle.pq_encodings.proofs.VarintLemmas.{length-varint_bytes, varint_bytes-spelled}
+use Rattle.pq_encodings.specs.Levels.{Run, StartsOther, level_of, same, onto_run, runs_of, run_bytes, level_bytes}
 
 same_self : (x : Bool) → same x x ≡ true
 same_self true = refl
@@ -78,3 +85,82 @@ all_spelled levels at count out h so_far =
     let none : count ≡ 0 = so_far.last h in
     let rest : drop at levels ≡ [] = drop_all at levels h in
     sym (append-nil out) ∙ sym (ap (λ n. out ++ level_bytes (replicate n (get_or levels at false) ++ drop at levels)) none ∙ ap (λ ys. out ++ level_bytes ys) rest) ∙ so_far.bytes
+
+-- ---- The bytes hold the levels
+
+abbrev total : List Run → ℕ
+total [] = 0
+total (r ∷ rs) = r.count + total rs
+
+abbrev AreFull : List Run → Type 0
+AreFull [] = Unit {0}
+AreFull (r ∷ rs) = (0 < r.count) × AreFull rs
+
+abbrev levels_of_run : Run → List ℕ
+levels_of_run r = replicate r.count (level_of r.value)
+
+run_header : (count : ℕ) → count < 2 ^ 63 → IsHeader (varint_bytes 9 (2 * count)) (2 * count)
+run_header count fits =
+    let small : 2 * count < 2 ^ (7 * 9 + 1) = omega arith in
+    record { spelled = varint_bytes-spelled 9 (2 * count) small; few = omega (arith, length-varint_bytes 9 (2 * count)); fits = omega arith }
+
+runs_held : (rs : List Run) (rest : List ℕ) → AreFull rs → total rs < 2 ^ 63 → HoldsRuns 1 (total rs) (flat_map run_bytes rs ++ rest) (flat_map levels_of_run rs)
+runs_held [] rest full fits = holds_nothing 1 rest
+runs_held (r ∷ rs) rest full fits =
+    let header : List ℕ = varint_bytes 9 (2 * r.count) in
+    let body : List ℕ = level_of r.value ∷ (flat_map run_bytes rs ++ rest) in
+    let bytes : (header ++ level_of r.value ∷ []) ++ flat_map run_bytes rs ++ rest ≡ header ++ body =
+    append_assoc (header ++ level_of r.value ∷ []) (flat_map run_bytes rs) rest ∙ append_assoc header (level_of r.value ∷ []) (flat_map run_bytes rs ++ rest) in
+    let one : little_number 1 body ≡ level_of r.value = omega arith in
+    let left : r.count + total rs - r.count ≡ total rs = omega arith in
+    let onward : HoldsRuns 1 (r.count + total rs - r.count) (flat_map run_bytes rs ++ rest) (flat_map levels_of_run rs) = rw left (runs_held rs rest full.1 (omega arith)) in
+    let all : HoldsRuns 1 (r.count + total rs) (header ++ body) (replicate r.count (little_number 1 body) ++ flat_map levels_of_run rs) =
+    repeated r.count (r.count + total rs) header body (flat_map levels_of_run rs) (run_header r.count (omega arith)) full.0 (omega arith) (omega arith) onward in
+    rw bytes (subst (λ (x : ℕ). HoldsRuns 1 (r.count + total rs) (header ++ body) (replicate r.count x ++ flat_map levels_of_run rs)) one all)
+
+same_is : (x y : Bool) → same x y ≡ true → x ≡ y
+same_is true true h = refl
+same_is true false h = cc
+same_is false true h = cc
+same_is false false h = refl
+
+-- one level before some runs
+record Onto (b : Bool) (rs new : List Run) : Type 0 where
+  pub full : AreFull new
+  pub more : total new ≡ total rs + 1
+  pub levels : flat_map levels_of_run new ≡ level_of b ∷ flat_map levels_of_run rs
+
+onto_run-is : (b : Bool) (rs : List Run) → AreFull rs → Onto b rs (onto_run b rs)
+onto_run-is b [] full = record { full = (omega arith, tt); more = omega arith; levels = refl }
+onto_run-is b (r ∷ rs) full =
+    elim (cases_Bool (same b r.value)) [
+      | inl p ↦
+          let value : b ≡ r.value = same_is b r.value p in
+          let longer : replicate (r.count + 1) (level_of b) ++ flat_map levels_of_run rs ≡ level_of b ∷ (replicate r.count (level_of r.value) ++ flat_map levels_of_run rs) =
+          rw (add-one, value) refl in
+          rw p (record { full = (omega arith, full.1); more = omega arith; levels = longer })
+      | inr p ↦ rw p (record { full = (omega arith, full); more = omega arith; levels = refl })
+    ]
+
+-- the runs of some levels
+record Covers (bs : List Bool) (rs : List Run) : Type 0 where
+  pub full : AreFull rs
+  pub size : total rs ≡ length bs
+  pub levels : flat_map levels_of_run rs ≡ map level_of bs
+
+runs_of-covers : (bs : List Bool) → Covers bs (runs_of bs)
+unfolding runs_of
+runs_of-covers [] = record { full = tt; size = refl; levels = refl }
+runs_of-covers (b ∷ bs) =
+    let rest = runs_of-covers bs in
+    let onto = onto_run-is b (runs_of bs) rest.full in
+    record {
+      full = onto.full;
+      size = omega (arith, onto.more, rest.size);
+      levels = onto.levels ∙ ap (λ xs. level_of b ∷ xs) rest.levels;
+    }
+
+pub level_bytes-held : (bs : List Bool) (rest : List ℕ) → length bs < 2 ^ 63 → HoldsRuns 1 (length bs) (level_bytes bs ++ rest) (map level_of bs)
+level_bytes-held bs rest fits =
+    let covers = runs_of-covers bs in
+    rw (← covers.size, ← covers.levels) (runs_held (runs_of bs) rest covers.full (omega (arith, covers.size)))

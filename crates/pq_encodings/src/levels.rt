@@ -1,6 +1,7 @@
 //! The one spelling of definition levels.
 
-ghost use Rattle.std.specs.Prelude.{◌≡◌, ◌≤◌, ◌<◌, ◌+◌, ◌*◌, ◌^◌, ◌++◌, [], ◌∷◌, length, drop, OnOk, IfOk, IsTrue, slice_index_or, false};
+ghost use Rattle.std.specs.Prelude.{◌≡◌, ◌≤◌, ◌<◌, ◌+◌, ◌*◌, ◌^◌, ◌++◌, [], ◌∷◌, length, drop, map, List, ℕ, OnOk, IfOk, IsTrue, slice_index_or, false};
+ghost use Rattle.pq_encodings.specs.Grammar.{HoldsRuns};
 ghost use Rattle.pq_encodings.specs.Levels as spec;
 ghost use Rattle.pq_encodings.specs.Levels.{StartsOther};
 
@@ -29,8 +30,8 @@ fn ends_run(levels: &[bool], at: usize) -> bool
     }
 }
 
-/// The levels as hybrid runs of width 1: the longest runs of equal values, each an even header and one byte.
-pub fn encode_levels(alloc: Global, levels: &[bool]) -> Result<Vec<u8>, AllocError>
+/// The longest runs of equal levels.
+fn longest_runs(alloc: Global, levels: &[bool]) -> Result<Vec<u8>, AllocError>
     ensures { IfOk result (λ v. v.items ≡ spec.level_bytes levels.now) }
 {
     let mut out = Vec::new(alloc);
@@ -43,4 +44,14 @@ pub fn encode_levels(alloc: Global, levels: &[bool]) -> Result<Vec<u8>, AllocErr
         }
     }
     Ok(out)
+}
+
+/// The levels as hybrid runs of width 1: the longest runs of equal values, each an even header and one byte.
+pub fn encode_levels(alloc: Global, levels: &[bool]) -> Result<Vec<u8>, AllocError>
+    ensures spelled { IfOk result (λ v. v.items ≡ spec.level_bytes levels.now) }
+
+    // The bytes hold the levels, whatever follows.
+    ensures held { IfOk result (λ v. (rest : List ℕ) → HoldsRuns 1 (length levels.now) (v.items ++ rest) (map spec.level_of levels.now)) }
+{
+    longest_runs(alloc, levels)
 }

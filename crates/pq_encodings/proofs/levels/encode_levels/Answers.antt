@@ -1,18 +1,13 @@
-use Rattle.std.proofs.Common.{arith}
-use Rattle.pq_encodings.proofs.LevelLemmas.{all_spelled, run_continues, run_ended}
+use Rattle.std.proofs.Common.{◌≡◌, ◌<◌, ◌^◌, ℕ, List, ◌++◌, length, map, Vec, Global, arith}
+use Rattle.std.proofs.lemmas.Result.{IfOk-weaker}
+use Rattle.pq_encodings.specs.Grammar.{HoldsRuns}
+use Rattle.pq_encodings.specs.Levels.{level_bytes, level_of}
+use Rattle.pq_encodings.proofs.LevelLemmas.{level_bytes-held}
 use Rattle.pq_encodings.proofs.levels.encode_levels.Goals as goal
-use Rattle.pq_encodings.proofs.levels.encode_levels.Goals.{then-ends_run+in_ok-push_run, else-ends_run}
 
-pub loop-at-preserved : goal.loop-at-preserved
-loop-at-preserved c =
-    elim c.if-ends_run.branch [
-      | then-ends_run+in_ok-push_run w ↦
-          rw (w.count-is, w.out-is) (run_ended c.args.levels.now c.loop-at.at c.loop-at.count c.loop-at.out.items w.push_run.new.out.items c.loop-at-test.true
-          (c.ends_run.ensures.other w.if-ends_run.true) c.loop-at.invariant w.in_ok-push_run.ensures)
-      | else-ends_run w ↦
-          rw (w.count-is, w.out-is) (run_continues c.args.levels.now c.loop-at.at c.loop-at.count c.loop-at.out.items
-          (c.ends_run.ensures.same w.if-ends_run.false).0 (c.ends_run.ensures.same w.if-ends_run.false).1 c.loop-at.invariant)
-    ]
-
-pub returns : goal.returns
-returns c = all_spelled c.args.levels.now c.loop-at.at c.loop-at.count c.loop-at.out.items (omega arith) c.loop-at.invariant
+pub returns-clause-held : goal.returns-clause-held
+returns-clause-held c =
+    let fits : length c.args.levels.now < 2 ^ 63 = omega arith in
+    IfOk-weaker c.longest_runs.result (λ (v : Vec ℕ Global). v.items ≡ level_bytes c.args.levels.now)
+    (λ (v : Vec ℕ Global). (rest : List ℕ) → HoldsRuns 1 (length c.args.levels.now) (v.items ++ rest) (map level_of c.args.levels.now))
+    (λ v spelled rest. rw spelled (level_bytes-held c.args.levels.now rest fits)) c.longest_runs.ensures
