@@ -6,4 +6,5 @@ pub mod GrammarLemmas
 pub mod IndexLemmas
 pub mod BoolLemmas
 pub mod PlainLemmas
+pub mod ValueLemmas
 pub mod LevelLemmas

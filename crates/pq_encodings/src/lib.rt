@@ -11,6 +11,8 @@ mod numbers;
 mod plain;
 mod runs;
 mod strings;
+#[cfg(test)]
+mod tests;
 mod varint;
 
 pub use fault::EncFault;

@@ -2,7 +2,7 @@
 
 ghost use Rattle.std.specs.Prelude.{◌≡◌, ◌≤◌, IfOk};
 ghost use Rattle.pq_encodings.specs.Answers.{Gives};
-ghost use Rattle.pq_encodings.specs.Values.{AreShort, value_bytes, values_in, values_of};
+ghost use Rattle.pq_encodings.specs.Values.{AreShort, count_of, kind_of, value_bytes, values_in, values_of};
 
 use crate::bools::{bool_bytes, decode_bools};
 use crate::fault::EncFault;
@@ -28,15 +28,9 @@ pub enum Plain {
     Strings(ByteLists),
 }
 
-/// The first `count` plain values of the bytes. Bytes may follow.
-pub fn decode_plain(
-    alloc: Global,
-    kind: Physical,
-    count: u64,
-    bytes: &[u8],
-) -> Result<Plain, EncFault>
-    // The values, or the first fault with its place.
-    ensures gives { Gives values_of result (values_in kind count bytes.now) }
+/// The first `count` values of a kind, or the first fault.
+fn first_values(alloc: Global, kind: Physical, count: u64, bytes: &[u8]) -> Result<Plain, EncFault>
+    ensures { Gives values_of result (values_in kind count bytes.now) }
 {
     match kind {
         Physical::Boolean => Ok(Plain::Bools(decode_bools(alloc, bytes, count)?)),
@@ -47,6 +41,23 @@ pub fn decode_plain(
             Ok(Plain::Strings(ByteLists::from_vec(lists)))
         }
     }
+}
+
+/// The first `count` plain values of the bytes. Bytes may follow.
+pub fn decode_plain(
+    alloc: Global,
+    kind: Physical,
+    count: u64,
+    bytes: &[u8],
+) -> Result<Plain, EncFault>
+    // The values, or the first fault with its place.
+    ensures gives { Gives values_of result (values_in kind count bytes.now) }
+
+    ensures kind { IfOk result (λ p. kind_of (values_of p) ≡ kind) }
+    ensures count { IfOk result (λ p. count_of (values_of p) ≡ count) }
+    ensures short { IfOk result (λ p. AreShort (values_of p)) }
+{
+    first_values(alloc, kind, count, bytes)
 }
 
 /// The plain bytes of the values.
