@@ -1,17 +1,15 @@
 -- The reading gives exactly the values that the bytes hold.
-use Rattle.std.proofs.Common.{◌≡◌, ℕ, zero, suc, ◌+◌, ◌-◌, ◌*◌, ◌/◌, ◌%◌, ◌^◌, ◌<◌, ◌≤◌, ◌⊎◌, inl, inr, min, List, [], ◌∷◌, ◌++◌, length, take, drop, get_or, Result, Ok, Err, Option, Some, None, Bool, true, false, cond, refl, sym, ap, subst, ◌∙◌, arith, length-append, nat_eq, nat_lt, add-one, All}
+use Rattle.std.proofs.Common.{◌≡◌, ℕ, zero, suc, ◌+◌, ◌-◌, ◌*◌, ◌/◌, ◌%◌, ◌^◌, ◌<◌, ◌≤◌, inl, inr, min, List, [], ◌∷◌, ◌++◌, length, take, drop, Result, Ok, Err, Option, Some, None, true, false, cond, refl, sym, ap, subst, ◌∙◌, arith, nat_eq, nat_lt}
 use Rattle.std.specs.Prelude.{replicate}
 use Rattle.std.proofs.Math.Seq.{drop-append-add, drop-append_seam}
 use Rattle.std.proofs.lemmas.Bool.{cases_lt, eq-eqb, le-ltb, lt-ltb}
 use Rattle.std.proofs.lemmas.List.{drop-drop, length-replicate, length-take, take-append-drop}
-use Rattle.std.proofs.lemmas.List.Elements.{All-cons, All-nil}
 use Rattle.std.proofs.lemmas.List.FromFn.{length-map-range_with_len}
 use Rattle.byteorder.specs.Endian.{little_number}
 use Rattle.pq_encodings.specs.declared.fault.EncFault.{EncFault}
 use Rattle.pq_encodings.specs.declared.fault.EncFault.TheVariants as fault
 use Rattle.pq_encodings.specs.declared.varint.Varint.{Varint}
 use Rattle.pq_encodings.specs.declared.varint.Varint.TheVariants as varint
-use Rattle.pq_encodings.specs.Answers.{Gives}
 use Rattle.pq_encodings.specs.Bits.{packed_number, packed_numbers}
 use Rattle.pq_encodings.specs.Grammar.{HoldsRuns, IsHeader, none, packed, repeated}
 use Rattle.pq_encodings.specs.Runs.{Reading, all_of, behind_header, body_of, in_front, levels_in, packed_run, repeated_run, run_at, run_of, runs_in, whole_bytes}

@@ -7,4 +7,5 @@ pub mod IndexLemmas
 pub mod BoolLemmas
 pub mod PlainLemmas
 pub mod ValueLemmas
+pub mod RoundTripLemmas
 pub mod LevelLemmas

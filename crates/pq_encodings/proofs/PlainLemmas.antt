@@ -1,13 +1,11 @@
 -- Plain values one after the other.
-use Rattle.std.proofs.Common.{◌≡◌, ℕ, ◌+◌, ◌/◌, ◌%◌, ◌^◌, List, ◌++◌, ◌∷◌, [], map, sym, ap, ◌∙◌, arith, append_assoc, take, length, get_or, ◌<◌, ◌≤◌, ◌-◌, suc, Result, Ok, Err, refl, Vec, Global, All}
+use Rattle.std.proofs.Common.{◌≡◌, ℕ, ◌+◌, List, ◌++◌, ◌∷◌, [], map, sym, ap, ◌∙◌, arith, append_assoc, take, length, get_or, ◌<◌, ◌≤◌, ◌-◌, suc, Result, Ok, Err, refl, Vec, Global, All}
 use Rattle.pq_encodings.specs.declared.fault.EncFault.{EncFault}
 use Rattle.pq_encodings.specs.declared.fault.EncFault.TheVariants as fault
 use Rattle.pq_encodings.specs.Plain.{behind, most_bytes, onto, string_at, strings_at}
 use Rattle.pq_encodings.specs.Answers.{Fails}
 use Rattle.std.proofs.lemmas.List.{append-nil, get_or-map, length-map, take_more}
 use Rattle.std.proofs.lemmas.Grind.{flat_map-append}
-use Rattle.std.specs.Int.{bit_at}
-use Rattle.std.specs.Prelude.{bit_and}
 use Rattle.std.specs.List.{range_with_len, flat_map}
 use Rattle.std.proofs.lemmas.Nat.Bits.{shr_and_one}
 use Rattle.std.proofs.lemmas.List.FromFn.{map-range_with_len_more}

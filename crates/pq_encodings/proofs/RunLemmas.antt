@@ -1,5 +1,5 @@
 -- Runs one after the other.
-use Rattle.std.proofs.Common.{◌≡◌, ℕ, zero, suc, ◌+◌, ◌-◌, ◌*◌, ◌^◌, ◌<◌, ◌≤◌, List, [], ◌∷◌, ◌++◌, length, drop, get_or, Result, Ok, Err, Option, Some, None, refl, sym, ap, ◌∙◌, arith, append_assoc, length-append, nat_eq, false}
+use Rattle.std.proofs.Common.{◌≡◌, ℕ, zero, suc, ◌+◌, ◌-◌, ◌*◌, ◌^◌, ◌<◌, ◌≤◌, List, [], ◌++◌, length, drop, get_or, Ok, Err, Some, None, refl, sym, ap, ◌∙◌, arith, append_assoc, length-append, nat_eq, false}
 use Rattle.std.proofs.Math.Nat.{pow-le-pow_right}
 use Rattle.std.proofs.lemmas.List.{append-nil}
 use Rattle.std.proofs.lemmas.Nat.{mul-le}
@@ -8,7 +8,7 @@ use Rattle.byteorder.specs.Numbers.{little_from-lt}
 use Rattle.pq_encodings.specs.declared.fault.EncFault.{EncFault}
 use Rattle.pq_encodings.specs.declared.fault.EncFault.TheVariants as fault
 use Rattle.pq_encodings.specs.Answers.{Fails}
-use Rattle.pq_encodings.specs.Runs.{Appends, Reading, Reads, Stops, all_of, behind_header, in_front, no_more, run_at, runs_in}
+use Rattle.pq_encodings.specs.Runs.{Reading, Stops, in_front, no_more, run_at, runs_in}
 
 pub number_small : (n : ℕ) (xs : List ℕ) → ((k : ℕ) → get_or xs k 0 < 256) → n ≤ 4 → little_number n xs < 2 ^ 32
 number_small n xs small h =
@@ -21,18 +21,6 @@ pub held : (count width groups len : ℕ) → count ≤ 8 * groups → groups * 
 held count width groups len h within =
     let most : count * width ≤ 8 * groups * width = mul-le count width (8 * groups) width h (omega arith) in
     omega arith
-
--- what a body appends it appends behind a header too
-pub appends-behind_header : (len : ℕ) (old new : List ℕ) (used : ℕ) (read : Result (List ℕ × ℕ) EncFault) →
-    Appends old new (Ok used) read → Appends old new (Ok (len + used)) (behind_header len read)
-appends-behind_header len old new used read h = (h.0, ap (behind_header len) h.1, h.2)
-
-pub fails-behind_header : (e : EncFault) (len : ℕ) (read : Result (List ℕ × ℕ) EncFault) → Fails e read → Fails e (behind_header len read)
-fails-behind_header fault.Memory len read h = tt
-fails-behind_header (fault.Short a) len read h = ap (behind_header len) h
-fails-behind_header (fault.BadRun a) len read h = ap (behind_header len) h
-fails-behind_header (fault.BadIndex a i s) len read h = ap (behind_header len) h
-fails-behind_header (fault.LongCell a l) len read h = ap (behind_header len) h
 
 regroup : (front xs : List ℕ) (r : Reading) → in_front front (in_front xs r) ≡ in_front (front ++ xs) r
 regroup front xs r = ap (λ (zs : List ℕ). record { values = zs; ended = r.ended }) (sym (append_assoc front xs r.values))
@@ -107,10 +95,3 @@ is_done front count most width at bytes total full so_far =
     ∙ ap (λ n. in_front front (runs_in most width bytes n at)) left
     ∙ ap (λ r. in_front front r) (none_wanted most width at bytes) in
     (ap (λ r. r.values) whole ∙ append-nil front, ap (λ r. r.ended) whole)
-
-pub levels_stop : (kept : List ℕ) (e : EncFault) (r : Reading) → Stops kept e r → Fails e (all_of r.values r.ended)
-levels_stop kept fault.Memory r h = tt
-levels_stop kept (fault.Short a) r h = rw h.1 refl
-levels_stop kept (fault.BadRun a) r h = rw h.1 refl
-levels_stop kept (fault.BadIndex a i s) r h = rw h.1 refl
-levels_stop kept (fault.LongCell a l) r h = rw h.1 refl

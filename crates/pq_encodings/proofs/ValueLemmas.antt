@@ -1,17 +1,15 @@
 -- Plain values that were read, and plain bytes that are read again.
-use Rattle.std.proofs.Common.{◌≡◌, ℕ, ℤ, zero, suc, ◌+◌, ◌-◌, ◌*◌, ◌/◌, ◌%◌, ◌^◌, ◌<◌, ◌≤◌, ◌⊎◌, inl, inr, List, [], ◌∷◌, ◌++◌, length, take, drop, map, get_or, All, Result, Ok, Err, Bool, true, false, cond, refl, sym, ap, subst, ◌∙◌, arith, append_assoc, nat_eq, nat_lt}
-use Rattle.std.proofs.Math.Seq.{drop-append-add, drop-append_seam}
+use Rattle.std.proofs.Common.{◌≡◌, ℕ, ℤ, zero, suc, ◌+◌, ◌*◌, ◌/◌, ◌≤◌, inl, inr, List, [], ◌∷◌, length, take, drop, All, Result, Ok, Err, Bool, true, false, cond, refl, sym, ap, subst, ◌∙◌, arith, nat_lt}
 use Rattle.std.proofs.lemmas.Bool.{cases_lt, le-ltb, lt-ltb}
 use Rattle.std.proofs.lemmas.List.{length-take}
-use Rattle.std.proofs.lemmas.List.Elements.{All-cons, All-head, All-nil, All-tail}
-use Rattle.std.proofs.lemmas.List.FromFn.{fill_by_all, length-map-range_with_len}
-use Rattle.std.specs.List.{flat_map, range_with_len}
-use Rattle.byteorder.specs.Endian.{little_bytes, little_number}
+use Rattle.std.proofs.lemmas.List.Elements.{All-cons, All-nil}
+use Rattle.std.proofs.lemmas.List.FromFn.{length-map-range_with_len}
+use Rattle.byteorder.specs.Endian.{little_number}
 use Rattle.pq_encodings.specs.declared.fault.EncFault.{EncFault}
 use Rattle.pq_encodings.specs.declared.fault.EncFault.TheVariants as fault
 use Rattle.pq_encodings.specs.declared.plain.Physical.{Physical}
 use Rattle.pq_encodings.specs.declared.plain.Physical.TheVariants as physical
-use Rattle.pq_encodings.specs.Plain.{bool_at, bools_in, bools_of, i32_at, i32s_in, i32s_of, i64_at, i64s_in, i64s_of, most_bytes, onto, string_at, string_bytes, strings_at, strings_bytes, then_more}
+use Rattle.pq_encodings.specs.Plain.{bool_at, bools_in, bools_of, i32_at, i32s_in, i32s_of, i64_at, i64s_in, i64s_of, most_bytes, onto, string_at, strings_at, then_more}
 use Rattle.pq_encodings.specs.Values.{AreShort, Values, bools, count_of, i32s, i64s, kind_of, made, strings, values_in}
 
 -- ---- What was read is short, and as much as was wanted

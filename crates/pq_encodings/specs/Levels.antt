@@ -1,5 +1,5 @@
 -- The one spelling of levels: the longest runs of equal values.
-use Rattle.std.specs.Prelude.{◌≡◌, ℕ, ◌+◌, ◌*◌, ◌++◌, if◌then◌else◌, List, [], ◌∷◌, Bool, true, false, cond}
+use Rattle.std.specs.Prelude.{◌≡◌, ℕ, ◌+◌, ◌*◌, ◌++◌, if◌then◌else◌, List, [], ◌∷◌, Bool, true, false}
 use Rattle.std.specs.List.{flat_map}
 use Rattle.pq_encodings.specs.Varint.{varint_bytes}
 

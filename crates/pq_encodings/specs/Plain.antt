@@ -1,5 +1,5 @@
 -- Plain values, one after the other, both ways.
-use Rattle.std.specs.Prelude.{◌≡◌, ◌≤◌, ℕ, ℤ, zero, suc, ◌+◌, ◌*◌, ◌/◌, ◌++◌, nat_lt, nat_eq, if◌then◌else◌, List, [], ◌∷◌, All, length, drop, take, map, get_or, Result, Ok, Err, Bool, false}
+use Rattle.std.specs.Prelude.{ℕ, ℤ, zero, suc, ◌+◌, ◌*◌, ◌/◌, ◌++◌, nat_lt, nat_eq, if◌then◌else◌, List, [], ◌∷◌, length, drop, take, map, get_or, Result, Ok, Err, Bool, false}
 use Rattle.std.specs.Int.{cast_signed, cast_unsigned, w32, w64}
 use Rattle.std.specs.List.{range_with_len, flat_map}
 use Rattle.byteorder.specs.Endian.{little_number, little_bytes}

@@ -1,5 +1,6 @@
 -- The plain values of a column as contracts compare them, and what bytes they have.
-use Rattle.std.specs.Prelude.{◌≤◌, ℕ, ℤ, List, All, Bool, length, Result, Ok, Err}
+use Rattle.std.specs.Prelude.{◌≡◌, ◌≤◌, ℕ, ℤ, List, All, FitsSigned, Bool, length, Result, Ok, Err}
+use Rattle.std.specs.Int.{w32, w64}
 use Rattle.pq_encodings.specs.declared.fault.EncFault.{EncFault}
 use Rattle.pq_encodings.specs.declared.plain.Physical.{Physical}
 use Rattle.pq_encodings.specs.declared.plain.Physical.TheVariants as physical
@@ -57,3 +58,14 @@ AreShort (bools xs) = Unit {0}
 AreShort (i32s xs) = Unit {0}
 AreShort (i64s xs) = Unit {0}
 AreShort (strings xs) = All (λ x. length x ≤ most_bytes) xs
+
+-- Each number is one of its type. A contract sees an i32 or an i64 as an integer of any size.
+abbrev pub AreInRange : Values → Type 0
+AreInRange (bools xs) = Unit {0}
+AreInRange (i32s xs) = All (λ z. FitsSigned w32 z) xs
+AreInRange (i64s xs) = All (λ z. FitsSigned w64 z) xs
+AreInRange (strings xs) = Unit {0}
+
+-- the bytes begin with these values
+abbrev pub IsReadAgain : Values → List ℕ → Type 0
+IsReadAgain vs bytes = values_in (kind_of vs) (count_of vs) bytes ≡ Ok vs

@@ -1,5 +1,5 @@
 -- Variable-length numbers: seven bits a byte, the low ones first; a byte of 128 or more says that another follows.
-use Rattle.std.specs.Prelude.{◌≡◌, ℕ, zero, suc, ◌+◌, ◌-◌, ◌*◌, ◌/◌, ◌%◌, ◌^◌, ◌<◌, ◌≤◌, nat_eq, nat_lt, if◌then◌else◌, List, [], ◌∷◌, length}
+use Rattle.std.specs.Prelude.{◌≡◌, ℕ, zero, suc, ◌+◌, ◌-◌, ◌*◌, ◌/◌, ◌%◌, ◌^◌, ◌<◌, ◌≤◌, nat_eq, nat_lt, if◌then◌else◌, List, [], ◌∷◌}
 use Rattle.pq_encodings.specs.declared.varint.Varint.{Varint}
 use Rattle.pq_encodings.specs.declared.varint.Varint.TheVariants as varint
 

@@ -1,8 +1,8 @@
 //! Plain values (Apache Parquet format, "Plain").
 
-ghost use Rattle.std.specs.Prelude.{◌≡◌, ◌≤◌, IfOk};
+ghost use Rattle.std.specs.Prelude.{◌≡◌, ◌++◌, List, ℕ, IfOk};
 ghost use Rattle.pq_encodings.specs.Answers.{Gives};
-ghost use Rattle.pq_encodings.specs.Values.{AreShort, count_of, kind_of, value_bytes, values_in, values_of};
+ghost use Rattle.pq_encodings.specs.Values.{AreInRange, AreShort, IsReadAgain, count_of, kind_of, value_bytes, values_in, values_of};
 
 use crate::bools::{bool_bytes, decode_bools};
 use crate::fault::EncFault;
@@ -60,8 +60,8 @@ pub fn decode_plain(
     first_values(alloc, kind, count, bytes)
 }
 
-/// The plain bytes of the values.
-pub fn encode_plain(alloc: Global, values: &Plain) -> Result<Vec<u8>, AllocError>
+/// The bytes of the values, by their type.
+fn plain_bytes(alloc: Global, values: &Plain) -> Result<Vec<u8>, AllocError>
     requires { AreShort (values_of values.now) }
     ensures { IfOk result (λ v. v.items ≡ value_bytes (values_of values.now)) }
 {
@@ -71,4 +71,15 @@ pub fn encode_plain(alloc: Global, values: &Plain) -> Result<Vec<u8>, AllocError
         Plain::I64s(values) => i64_bytes(alloc, values),
         Plain::Strings(lists) => string_bytes(alloc, lists.as_slice()),
     }
+}
+
+/// The plain bytes of the values.
+pub fn encode_plain(alloc: Global, values: &Plain) -> Result<Vec<u8>, AllocError>
+    requires { AreShort (values_of values.now) }
+    ensures spelled { IfOk result (λ v. v.items ≡ value_bytes (values_of values.now)) }
+
+    // The values are read again, whatever follows.
+    ensures again { IfOk result (λ v. (rest : List ℕ) → AreInRange (values_of values.now) → IsReadAgain (values_of values.now) (v.items ++ rest)) }
+{
+    plain_bytes(alloc, values)
 }

@@ -55,7 +55,6 @@ fn repeated(
     Ok(size)
 }
 
-#[tactic(auto, using(crate::proofs::RunLemmas::held))]
 /// Appends the numbers of a packed run, and answers how many bytes of its body it takes. Memory is taken only for
 /// numbers that are wanted and that the bytes hold.
 fn packed(
@@ -114,8 +113,8 @@ fn run_body(
     packed(out, body, width, need, at, half)
 }
 
-#[tactic(auto, unfolding(crate::specs::Runs::run_at))]
 /// Appends the values of the run at the front, which begins at place `at`, and answers how many bytes it takes.
+#[tactic(auto, unfolding(crate::specs::Runs::run_at))]
 fn run_at(
     out: &mut Vec<u32>,
     bytes: &[u8],

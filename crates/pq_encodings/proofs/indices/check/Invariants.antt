@@ -1,4 +1,4 @@
-use Rattle.std.proofs.Common.{◌≡◌, ℕ, drop}
+use Rattle.std.proofs.Common.{◌≡◌, drop}
 use Rattle.pq_encodings.specs.Indices.{bad_index}
 use Rattle.pq_encodings.proofs.indices.check.Given as goal
 

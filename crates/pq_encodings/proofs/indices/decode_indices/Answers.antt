@@ -1,4 +1,4 @@
-use Rattle.std.proofs.Common.{◌<◌, ℕ, List, All, Ok, Vec, Global}
+use Rattle.std.proofs.Common.{◌<◌, ℕ, All, Ok, Vec, Global}
 use Rattle.pq_encodings.specs.Grammar.{HoldsIndices}
 use Rattle.pq_encodings.specs.Indices.{indices_in}
 use Rattle.pq_encodings.proofs.AnswerLemmas.{gives-holds, gives-same}

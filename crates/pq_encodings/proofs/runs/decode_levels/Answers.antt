@@ -1,4 +1,4 @@
-use Rattle.std.proofs.Common.{ℕ, List, Ok, Vec, Global}
+use Rattle.std.proofs.Common.{ℕ, Ok, Vec, Global}
 use Rattle.pq_encodings.specs.Grammar.{HoldsRuns}
 use Rattle.pq_encodings.specs.Runs.{levels_in}
 use Rattle.pq_encodings.proofs.AnswerLemmas.{gives-holds, gives-same}

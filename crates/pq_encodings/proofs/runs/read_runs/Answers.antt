@@ -1,4 +1,4 @@
-use Rattle.std.proofs.Common.{◌≡◌, ℕ, ◌+◌, ◌-◌, ◌<◌, ◌≤◌, ◌++◌, List, length, arith, Ok}
+use Rattle.std.proofs.Common.{◌≡◌, ◌-◌, length, arith, Ok}
 use Rattle.std.proofs.lemmas.Result.{err_from_is_err_and}
 use Rattle.pq_encodings.specs.Runs.{run_at, runs_in}
 use Rattle.pq_encodings.proofs.RunLemmas.{goes_on, stops, is_done}
