@@ -27,7 +27,11 @@ fn signed_sum_of(numbers: &[i64]) -> i64 {
 fn plain_sum(rt: &impl Print, alloc: Global) -> Result<()> {
     let bytes = pattern(alloc, 8 * COUNT as usize)?;
     if let Plain::I64s(values) = decode_plain(alloc, Physical::Int64, u64::from(COUNT), &bytes)? {
-        println!(rt; "plain INT64: {} values, sum {}", values.len(), signed_sum_of(&values))?;
+        println!(rt;
+            "plain INT64: {} values, sum {}",
+            values.len(),
+            signed_sum_of(&values)
+        )?;
     }
     Ok(())
 }
