@@ -1,5 +1,5 @@
-//! Decodes columns with `pq_encodings`. Without a word it decodes a small column of each kind and prints the count and
-//! the sum of the values; with the word `time` it times large columns beside a copy of the values.
+//! Decodes columns with `pq_encodings`. Without a word on its command line it decodes a small column of each kind and
+//! prints the count and the sum of the values; with one, as `time`, it times columns beside a copy of their values.
 #![tactic(auto)]
 
 mod columns;

@@ -50,6 +50,7 @@ fn index_sum(rt: &impl Print, alloc: Global) -> Result<()> {
     Ok(())
 }
 
+/// Prints the count and the sum of each column's values.
 pub fn print_sums(rt: &impl Print, alloc: Global) -> Result<()> {
     plain_sum(rt, alloc)?;
     level_sum(rt, alloc)?;

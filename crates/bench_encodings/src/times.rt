@@ -133,6 +133,7 @@ fn print_kinds(rt: &(impl Print + Clock), alloc: Global, size: (u32, u32)) -> Re
     print_indices(rt, alloc, size)
 }
 
+/// Prints the least times of each decoder and of a copy, for large columns and for blocks.
 pub fn print_times(rt: &(impl Print + Clock), alloc: Global) -> Result<()> {
     println!(rt; "10,000,000 values, into new memory")?;
     print_kinds(rt, alloc, COLUMN)?;

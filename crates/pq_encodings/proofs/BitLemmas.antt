@@ -123,8 +123,12 @@ packed-at_bit bytes small first width word h e =
     ∙ ap (λ n. packed_number width bytes n) (omega arith)
 
 -- one number more
-pub one_more : (f : ℕ → ℕ) (xs : List ℕ) (k : ℕ) → (xs ++ map f (range_with_len 0 k)) ++ f k ∷ [] ≡ xs ++ map f (range_with_len 0 (k + 1))
-one_more f xs k = append_assoc xs (map f (range_with_len 0 k)) (f k ∷ []) ∙ ap (λ ys. xs ++ ys) (sym (map-range_with_len_more f 0 k k (omega arith)))
+pub one_number_more : (width : ℕ) (bytes : List ℕ) (k v : ℕ) (old own new : List ℕ) → new ≡ own ++ v ∷ [] → v ≡ packed_number width bytes (k * width) →
+    own ≡ old ++ packed_numbers width bytes k → new ≡ old ++ packed_numbers width bytes (k + 1)
+one_number_more width bytes k v old own new pushed number so_far =
+    let f : ℕ → ℕ = λ i. packed_number width bytes (i * width) in
+    pushed ∙ ap (λ n. own ++ n ∷ []) number ∙ ap (λ xs. xs ++ f k ∷ []) so_far
+    ∙ append_assoc old (map f (range_with_len 0 k)) (f k ∷ []) ∙ ap (λ xs. old ++ xs) (sym (map-range_with_len_more f 0 k k (omega arith)))
 
 -- a list made from places, cut in two
 map-range_with_len_add : {X : Type 0} → (f : ℕ → X) (a b : ℕ) →

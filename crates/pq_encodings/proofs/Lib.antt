@@ -8,4 +8,5 @@ pub mod BoolLemmas
 pub mod PlainLemmas
 pub mod ValueLemmas
 pub mod RoundTripLemmas
+pub mod HeldLemmas
 pub mod LevelLemmas

@@ -95,7 +95,7 @@ bit_at-number_of_bits (suc w) f small j h =
           ∙ ap (λ i. bit_at (f w) i) none ∙ bit_at_lowest (f w) ∙ one)
     ]
 
-is_one : (b : Bool) → nat_eq (cond b 1 0) 1 ≡ b
+pub is_one : (b : Bool) → nat_eq (cond b 1 0) 1 ≡ b
 is_one true = refl
 is_one false = refl
 
@@ -129,25 +129,30 @@ string_of bytes at size =
     (cond (nat_lt (length bytes) (at + 4 + size)) (Err (fault.Short at))
     (Ok (take size (drop (at + 4) bytes), at + 4 + size))))
 
+-- a byte string is read where its parts stand
+string_at-parts : (bytes x : List ℕ) (at size : ℕ) → little_number 4 (drop at bytes) ≡ size → size ≤ most_bytes → at + 4 + size ≤ length bytes →
+    take size (drop (at + 4) bytes) ≡ x → string_at bytes at ≡ Ok (x, at + 4 + size)
+string_at-parts bytes x at size number short whole text =
+    let first : nat_lt (length bytes) (at + 4) ≡ false = le-ltb (length bytes) (at + 4) (omega arith) in
+    let few : nat_lt most_bytes size ≡ false = le-ltb most_bytes size short in
+    let last : nat_lt (length bytes) (at + 4 + size) ≡ false = le-ltb (length bytes) (at + 4 + size) whole in
+    let read : string_of bytes at size ≡ Ok (x, at + 4 + size) = rw (first, few, last) (ap (λ (ys : List ℕ). Ok (ys, at + 4 + size)) text) in
+    ap (λ n. string_of bytes at n) number ∙ read
+
 string_at-bytes : (front x tail : List ℕ) → length x ≤ most_bytes → string_at (front ++ (string_bytes x ++ tail)) (length front) ≡ Ok (x, length front + 4 + length x)
 string_at-bytes front x tail short =
     let size : ℕ = length x in
-    let at : ℕ = length front in
     let head : List ℕ = little_bytes 4 size in
     let four : length head ≡ 4 = length-bytes_low_first 0 4 size in
     let bytes : List ℕ = front ++ (string_bytes x ++ tail) in
-    let here : drop at bytes ≡ head ++ (x ++ tail) = drop-append_seam front (string_bytes x ++ tail) ∙ append_assoc head x tail in
-    let number : little_number 4 (drop at bytes) ≡ size = ap (λ ys. little_number 4 ys) here ∙ little_number-reads_back 4 size (x ++ tail) (omega arith) in
-    let behind : drop (at + 4) bytes ≡ x ++ tail =
-    ap (λ n. drop (at + n) bytes) (sym four) ∙ drop-append-add front (string_bytes x ++ tail) (length head) ∙ ap (λ ys. drop (length head) ys) (append_assoc head x tail) ∙ drop-append_seam head (x ++ tail) in
-    let whole : length bytes ≡ at + (4 + size + length tail) =
+    let here : drop (length front) bytes ≡ head ++ (x ++ tail) = drop-append_seam front (string_bytes x ++ tail) ∙ append_assoc head x tail in
+    let number : little_number 4 (drop (length front) bytes) ≡ size = ap (λ ys. little_number 4 ys) here ∙ little_number-reads_back 4 size (x ++ tail) (omega arith) in
+    let behind : drop (length front + 4) bytes ≡ x ++ tail =
+    ap (λ n. drop (length front + n) bytes) (sym four) ∙ drop-append-add front (string_bytes x ++ tail) (length head) ∙ ap (λ ys. drop (length head) ys) (append_assoc head x tail)
+    ∙ drop-append_seam head (x ++ tail) in
+    let whole : length front + 4 + size ≤ length bytes =
     omega (arith, length-append front (string_bytes x ++ tail), length-append (string_bytes x) tail, length-append head x) in
-    let first : nat_lt (length bytes) (at + 4) ≡ false = le-ltb (length bytes) (at + 4) (omega arith) in
-    let few : nat_lt most_bytes size ≡ false = le-ltb most_bytes size short in
-    let last : nat_lt (length bytes) (at + 4 + size) ≡ false = le-ltb (length bytes) (at + 4 + size) (omega arith) in
-    let read : string_of bytes at size ≡ Ok (take size (drop (at + 4) bytes), at + 4 + size) = rw (first, few, last) refl in
-    ap (λ n. string_of bytes at n) number ∙ read ∙ ap (λ (ys : List ℕ). Ok (take size ys, at + 4 + size)) behind
-    ∙ ap (λ (ys : List ℕ). Ok (ys, at + 4 + size)) (take-append_seam x tail)
+    string_at-parts bytes x (length front) size number short whole (ap (λ ys. take size ys) behind ∙ take-append_seam x tail)
 
 strings_at-bytes : (xs : List (List ℕ)) (front rest : List ℕ) → All (λ x. length x ≤ most_bytes) xs → strings_at (length xs) (front ++ (strings_bytes xs ++ rest)) (length front) ≡ Ok xs
 unfolding strings_at

@@ -15,13 +15,13 @@ use Rattle.pq_encodings.specs.Values.{AreShort, Values, bools, count_of, i32s, i
 -- ---- What was read is short, and as much as was wanted
 
 -- the values of an answer of a list
-made-is : {X : Type 0} (f : X → Values) (r : Result X EncFault) (vs : Values) → made f r ≡ Ok vs → (x : X) × (r ≡ Ok x) × (f x ≡ vs)
+pub made-is : {X : Type 0} (f : X → Values) (r : Result X EncFault) (vs : Values) → made f r ≡ Ok vs → (x : X) × (r ≡ Ok x) × (f x ≡ vs)
 made-is f (Ok x) vs h =
     let same : f x ≡ vs = cc in (x, refl, same)
 made-is f (Err e) vs h = cc
 
 -- an answer behind a test that refuses
-ok_behind : {X : Type 0} (t : Bool) (e : EncFault) (x y : X) → ◌≡◌ {A = Result X EncFault} (cond t (Err e) (Ok x)) (Ok y) → (t ≡ false) × (x ≡ y)
+pub ok_behind : {X : Type 0} (t : Bool) (e : EncFault) (x y : X) → ◌≡◌ {A = Result X EncFault} (cond t (Err e) (Ok x)) (Ok y) → (t ≡ false) × (x ≡ y)
 ok_behind true e x y h = cc
 ok_behind false e x y h =
     let same : x ≡ y = cc in (refl, same)
@@ -71,12 +71,12 @@ string_at-short bytes at x next h =
     string_fault : (e : EncFault) (x : List ℕ × ℕ) → ◌≡◌ {A = Result (List ℕ × ℕ) EncFault} (Err e) (Ok x) → ⊥
     string_fault e x h = cc
 
-onto-is : (x : List ℕ) (r : Result (List (List ℕ)) EncFault) (xs : List (List ℕ)) → onto x r ≡ Ok xs → (ys : List (List ℕ)) × (r ≡ Ok ys) × (x ∷ ys ≡ xs)
+pub onto-is : (x : List ℕ) (r : Result (List (List ℕ)) EncFault) (xs : List (List ℕ)) → onto x r ≡ Ok xs → (ys : List (List ℕ)) × (r ≡ Ok ys) × (x ∷ ys ≡ xs)
 onto-is x (Ok ys) xs h =
     let same : x ∷ ys ≡ xs = cc in (ys, refl, same)
 onto-is x (Err e) xs h = cc
 
-then_more-is : (r : Result (List ℕ × ℕ) EncFault) (go : ℕ → Result (List (List ℕ)) EncFault) (xs : List (List ℕ)) → then_more r go ≡ Ok xs →
+pub then_more-is : (r : Result (List ℕ × ℕ) EncFault) (go : ℕ → Result (List (List ℕ)) EncFault) (xs : List (List ℕ)) → then_more r go ≡ Ok xs →
     (x : List ℕ × ℕ) × (r ≡ Ok x) × (onto x.0 (go x.1) ≡ Ok xs)
 then_more-is (Ok x) go xs h = (x, refl, h)
 then_more-is (Err e) go xs h = cc

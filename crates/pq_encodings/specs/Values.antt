@@ -1,12 +1,13 @@
 -- The plain values of a column as contracts compare them, and what bytes they have.
-use Rattle.std.specs.Prelude.{◌≡◌, ◌≤◌, ℕ, ℤ, List, All, FitsSigned, Bool, length, Result, Ok, Err}
+use Rattle.std.specs.Prelude.{◌≡◌, ◌≤◌, ◌<◌, ◌*◌, ◌++◌, ℕ, ℤ, List, All, FitsSigned, Bool, length, Result, Ok, Err}
 use Rattle.std.specs.Int.{w32, w64}
 use Rattle.pq_encodings.specs.declared.fault.EncFault.{EncFault}
 use Rattle.pq_encodings.specs.declared.plain.Physical.{Physical}
 use Rattle.pq_encodings.specs.declared.plain.Physical.TheVariants as physical
 use Rattle.pq_encodings.specs.declared.plain.Plain.{Plain}
 use Rattle.pq_encodings.specs.declared.plain.Plain.TheVariants as plain
-use Rattle.pq_encodings.specs.Plain.{bool_bytes, bools_in, i32_bytes, i32s_in, i64_bytes, i64s_in, most_bytes, strings_at, strings_bytes}
+use Rattle.pq_encodings.specs.Bits.{bit_of}
+use Rattle.pq_encodings.specs.Plain.{bool_bit, bool_bytes, bools_in, i32_bytes, i32s_in, i64_bytes, i64s_in, most_bytes, strings_at, strings_bytes}
 
 -- plain values as lists
 pub data Values : Type 0 where
@@ -66,6 +67,18 @@ AreInRange (i32s xs) = All (λ z. FitsSigned w32 z) xs
 AreInRange (i64s xs) = All (λ z. FitsSigned w64 z) xs
 AreInRange (strings xs) = Unit {0}
 
--- the bytes begin with these values
+-- the booleans are the bits of the bytes, the low bit of a byte first
+pub record HoldsBits (xs : List Bool) (bytes : List ℕ) : Type 0 where
+  pub within : length xs ≤ 8 * length bytes
+  pub bits : (k : ℕ) → k < length xs → bit_of bytes k ≡ bool_bit xs k
+
+-- The bytes begin with these values. Bytes may follow, and bits behind the last boolean.
+abbrev pub BeginsWith : Values → List ℕ → Type 0
+BeginsWith (bools xs) bytes = HoldsBits xs bytes
+BeginsWith (i32s xs) bytes = (rest : List ℕ) × (bytes ≡ i32_bytes xs ++ rest)
+BeginsWith (i64s xs) bytes = (rest : List ℕ) × (bytes ≡ i64_bytes xs ++ rest)
+BeginsWith (strings xs) bytes = (rest : List ℕ) × (bytes ≡ strings_bytes xs ++ rest)
+
+-- the values are read of the bytes
 abbrev pub IsReadAgain : Values → List ℕ → Type 0
 IsReadAgain vs bytes = values_in (kind_of vs) (count_of vs) bytes ≡ Ok vs

@@ -1,8 +1,8 @@
 //! Plain values (Apache Parquet format, "Plain").
 
-ghost use Rattle.std.specs.Prelude.{◌≡◌, ◌++◌, List, ℕ, IfOk};
+ghost use Rattle.std.specs.Prelude.{◌≡◌, ◌++◌, List, ℕ, IfOk, Ok};
 ghost use Rattle.pq_encodings.specs.Answers.{Gives};
-ghost use Rattle.pq_encodings.specs.Values.{AreInRange, AreShort, IsReadAgain, count_of, kind_of, value_bytes, values_in, values_of};
+ghost use Rattle.pq_encodings.specs.Values.{AreInRange, AreShort, BeginsWith, IsReadAgain, Values, count_of, kind_of, value_bytes, values_in, values_of};
 
 use crate::bools::{bool_bytes, decode_bools};
 use crate::fault::EncFault;
@@ -50,7 +50,12 @@ pub fn decode_plain(
     count: u64,
     bytes: &[u8],
 ) -> Result<Plain, EncFault>
-    // The values, or the first fault with its place.
+    // The bytes begin with what is answered, and what they begin with is answered, unless memory runs out.
+    ensures held { IfOk result (λ p. BeginsWith (values_of p) bytes.now) }
+    ensures only { (vs : Values) → kind_of vs ≡ kind → count_of vs ≡ count → AreShort vs → AreInRange vs → BeginsWith vs bytes.now →
+        Gives values_of result (Ok vs) }
+
+    // Which fault it is, and its place.
     ensures gives { Gives values_of result (values_in kind count bytes.now) }
 
     ensures kind { IfOk result (λ p. kind_of (values_of p) ≡ kind) }

@@ -1,6 +1,6 @@
-use Rattle.std.proofs.Common.{◌+◌, ◌*◌, ◌++◌, [], ◌∷◌, ◌∙◌, ap, drop, length, arith}
-use Rattle.pq_encodings.specs.Bits.{packed_number, packed_numbers}
-use Rattle.pq_encodings.proofs.BitLemmas.{group_within, held_before, one_group_more, one_more}
+use Rattle.std.proofs.Common.{◌+◌, ◌*◌, ◌++◌, ◌∙◌, ap, drop, length, arith}
+use Rattle.pq_encodings.specs.Bits.{packed_numbers}
+use Rattle.pq_encodings.proofs.BitLemmas.{group_within, held_before, one_group_more, one_number_more}
 use Rattle.pq_encodings.proofs.bits.push_packed.Goals as goal
 
 pub split_at-requires : goal.split_at-requires
@@ -27,13 +27,9 @@ pub packed_at-requires-clause-held : goal.packed_at-requires-clause-held
 packed_at-requires-clause-held c = held_before c.loop-k.k c.args.width c.args.count (length c.args.bytes.now) (omega arith) c.requires.held
 
 pub loop-k-preserved : goal.loop-k-preserved
-loop-k-preserved c =
-    let kept = c.loop-k.invariant in
-    record {
-      room = omega arith;
-      longer = omega arith;
-      items = c.push_reserved.ensures.items
-          ∙ ap (λ v. c.loop-k.own.items ++ v ∷ []) c.packed_at.ensures
-          ∙ ap (λ xs. xs ++ packed_number c.args.width c.args.bytes.now (c.loop-k.k * c.args.width) ∷ []) kept.items
-          ∙ one_more (λ i. packed_number c.args.width c.args.bytes.now (i * c.args.width)) c.args.out.now.items c.loop-k.k;
-    }
+loop-k-preserved c = record {
+  room = omega arith;
+  longer = omega arith;
+  items = one_number_more c.args.width c.args.bytes.now c.loop-k.k c.packed_at.result c.args.out.now.items c.loop-k.own.items c.push_reserved.new.self.items
+      c.push_reserved.ensures.items c.packed_at.ensures c.loop-k.invariant.items;
+}
