@@ -1,0 +1,12 @@
+pub mod AnswerLemmas
+pub mod BitLemmas
+pub mod VarintLemmas
+pub mod RunLemmas
+pub mod GrammarLemmas
+pub mod IndexLemmas
+pub mod BoolLemmas
+pub mod PlainLemmas
+pub mod ValueLemmas
+pub mod RoundTripLemmas
+pub mod HeldLemmas
+pub mod LevelLemmas

@@ -1,0 +1,9 @@
+pub mod Answers
+pub mod Bits
+pub mod Varint
+pub mod Runs
+pub mod Grammar
+pub mod Indices
+pub mod Levels
+pub mod Plain
+pub mod Values

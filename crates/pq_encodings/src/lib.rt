@@ -1,0 +1,23 @@
+//! The encodings of values in Apache Parquet pages, both ways: definition levels, plain values and dictionary indices
+//! (Apache Parquet format, "Encodings"). What is read may come from strangers: any bytes give values or the first fault.
+#![tactic(auto)]
+
+mod bits;
+mod bools;
+mod fault;
+mod indices;
+mod levels;
+mod numbers;
+mod plain;
+mod runs;
+mod strings;
+#[cfg(test)]
+mod tests;
+mod varint;
+
+pub use fault::EncFault;
+pub use indices::decode_indices;
+pub use levels::encode_levels;
+pub use plain::{Physical, Plain, decode_plain, encode_plain};
+pub use runs::decode_levels;
+pub use strings::ByteLists;
