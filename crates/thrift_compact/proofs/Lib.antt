@@ -1,0 +1,9 @@
+pub mod NumberBounds
+pub mod SkippingLemmas
+pub mod Matching
+pub mod ScalarLemmas
+pub mod HeaderLemmas
+pub mod ValueLemmas
+pub mod ReaderLemmas
+pub mod WriterLemmas
+pub mod LawLemmas
