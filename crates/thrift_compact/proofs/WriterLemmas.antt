@@ -208,7 +208,8 @@ stop_shortest last = record { spells = refl; least = λ other s. omega (arith, a
 -- ---- what the calls say
 
 appends : {A : Type 0} (S : List ℕ → A → Type 0) (old new back : List ℕ) (x : A) → new ≡ old ++ back → IsShortest S back x → Appends S old new x
-appends S old new back x parts short = record { back = back; parts = parts; shortest = short }
+unfolding Appends
+appends S old new back x parts short = (back, parts, short)
 
 pub appends_signed : (old new : List ℕ) (z : ℤ) → new ≡ old ++ signed_spelling z → to_zigzag z < 2 ^ 64 → Appends (IsSigned (2 ^ 64)) old new z
 appends_signed old new z parts lt = appends (IsSigned (2 ^ 64)) old new (signed_spelling z) z parts (signed_shortest (2 ^ 64) z lt (lit≤ tt))

@@ -29,7 +29,7 @@ pub record NoneAt {A : Type 0} (S : List ℕ → A → Type 0) (bytes : List ℕ
   pub never : (front more : List ℕ) (x : A) → bytes ≡ front ++ more → S front x → ⊥
 
 -- What was read is the item at this place. A fault says that there is none, and the reader stands where it stood.
-abbrev pub Finds : {A : Type 0} → (List ℕ → A → Type 0) → Cursor → Cursor → Result A ThriftFault → Type 0
+unfoldable pub Finds : {A : Type 0} → (List ℕ → A → Type 0) → Cursor → Cursor → Result A ThriftFault → Type 0
 Finds S old new (Ok x) = MovesPast S old new x
 Finds S old new (Err fault) = NoneAt S old.rest × (new ≡ old)
 
@@ -44,7 +44,7 @@ ReadsSlice old new (Ok slice) read = (read ≡ Ok (slice.now, new.rest)) × (end
 ReadsSlice old new (Err fault) read = (read ≡ Err fault) × (new ≡ old)
 
 -- The reader has moved past some value of this type. A fault says that there is none, and the reader stands where it stood.
-abbrev pub FindsSome : {A : Type 0} → (List ℕ → A → Type 0) → Cursor → Cursor → Result ⊤ ThriftFault → Type 0
+unfoldable pub FindsSome : {A : Type 0} → (List ℕ → A → Type 0) → Cursor → Cursor → Result ⊤ ThriftFault → Type 0
 FindsSome S old new (Ok unit) = MovesPastSome S old new
 FindsSome S old new (Err fault) = NoneAt S old.rest × (new ≡ old)
 

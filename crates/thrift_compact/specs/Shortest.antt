@@ -37,7 +37,5 @@ pub record IsShortest {A : Type 0} (S : List ℕ → A → Type 0) (bytes : List
   pub least : (other : List ℕ) → S other x → length bytes ≤ length other
 
 -- The bytes have gained the shortest spelling of x at their end.
-pub record Appends {A : Type 0} (S : List ℕ → A → Type 0) (old new : List ℕ) (x : A) : Type 0 where
-  pub back : List ℕ
-  pub parts : new ≡ old ++ back
-  pub shortest : IsShortest S back x
+unfoldable pub Appends : {A : Type 0} → (List ℕ → A → Type 0) → List ℕ → List ℕ → A → Type 0
+Appends S old new x = (back : List ℕ) × (new ≡ old ++ back) × IsShortest S back x

@@ -62,7 +62,7 @@ impl<'a> Reader<'a> {
 
     /// Reads a field's header: its id and its type, or none at the struct's stop. `last` is the id of the field before it in
     /// its struct, and 0 at the first.
-    #[tactic(auto, using(crate::proofs::ReaderLemmas::finds_field_header, crate::proofs::ReaderLemmas::refuses_field_header))]
+    #[tactic(auto, using(crate::proofs::ReaderLemmas::finds_field_header, crate::proofs::ReaderLemmas::refuses_field_header), unfolding(crate::specs::Cursor::Finds))]
     pub fn read_header(&mut self, last: i16) -> Result<Option<(i16, u8)>, ThriftFault>
         ensures item { Finds (IsFieldHeader last) self.old self.new result }
         ensures exact { Reads self.old self.new result (field_header_in self.old.at last self.old.rest) }
@@ -73,7 +73,7 @@ impl<'a> Reader<'a> {
     }
 
     /// Reads a signed number of 64 bits, also one that is not in its shortest spelling.
-    #[tactic(auto, using(crate::proofs::ReaderLemmas::finds_signed, crate::proofs::ReaderLemmas::refuses_signed))]
+    #[tactic(auto, using(crate::proofs::ReaderLemmas::finds_signed, crate::proofs::ReaderLemmas::refuses_signed), unfolding(crate::specs::Cursor::Finds))]
     pub fn read_i64(&mut self) -> Result<i64, ThriftFault>
         ensures item { Finds (IsSigned (2 ^ 64)) self.old self.new result }
         ensures exact { Reads self.old self.new result (signed_in self.old.at (2 ^ 64) self.old.rest) }
@@ -84,7 +84,7 @@ impl<'a> Reader<'a> {
     }
 
     /// Reads a signed number of 32 bits, also one that is not in its shortest spelling.
-    #[tactic(auto, using(crate::proofs::ReaderLemmas::finds_signed, crate::proofs::ReaderLemmas::refuses_signed))]
+    #[tactic(auto, using(crate::proofs::ReaderLemmas::finds_signed, crate::proofs::ReaderLemmas::refuses_signed), unfolding(crate::specs::Cursor::Finds))]
     pub fn read_i32(&mut self) -> Result<i32, ThriftFault>
         ensures item { Finds (IsSigned (2 ^ 32)) self.old self.new result }
         ensures exact { Reads self.old self.new result (signed_in self.old.at (2 ^ 32) self.old.rest) }
@@ -95,7 +95,7 @@ impl<'a> Reader<'a> {
     }
 
     /// Reads a signed byte.
-    #[tactic(auto, using(crate::proofs::ReaderLemmas::finds_byte, crate::proofs::ReaderLemmas::refuses_byte))]
+    #[tactic(auto, using(crate::proofs::ReaderLemmas::finds_byte, crate::proofs::ReaderLemmas::refuses_byte), unfolding(crate::specs::Cursor::Finds))]
     pub fn read_byte(&mut self) -> Result<i8, ThriftFault>
         ensures item { Finds IsByte self.old self.new result }
         ensures exact { Reads self.old self.new result (byte_in self.old.at self.old.rest) }
@@ -106,7 +106,7 @@ impl<'a> Reader<'a> {
     }
 
     /// Reads a byte string with its length, as a slice of the bytes that the reader was made with.
-    #[tactic(auto, using(crate::proofs::ReaderLemmas::finds_binary, crate::proofs::ReaderLemmas::refuses_binary))]
+    #[tactic(auto, using(crate::proofs::ReaderLemmas::finds_binary, crate::proofs::ReaderLemmas::refuses_binary), unfolding(crate::specs::Cursor::Finds))]
     pub fn read_binary(&mut self) -> Result<&'a [u8], ThriftFault>
         ensures item { Finds (λ bytes text. IsBinary bytes text.now) self.old self.new result }
         ensures exact { ReadsSlice self.old self.new result (binary_in self.old.at self.old.rest) }
@@ -117,7 +117,7 @@ impl<'a> Reader<'a> {
     }
 
     /// Reads the header of a list or a set: the elements' type, and how many they are.
-    #[tactic(auto, using(crate::proofs::ReaderLemmas::finds_list_header, crate::proofs::ReaderLemmas::refuses_list_header))]
+    #[tactic(auto, using(crate::proofs::ReaderLemmas::finds_list_header, crate::proofs::ReaderLemmas::refuses_list_header), unfolding(crate::specs::Cursor::Finds))]
     pub fn read_list(&mut self) -> Result<(u8, u32), ThriftFault>
         ensures item { Finds IsListHeader self.old self.new result }
         ensures exact { Reads self.old self.new result (list_header_in self.old.at self.old.rest) }
@@ -142,7 +142,7 @@ impl<'a> Reader<'a> {
     /// takes no bytes, since its type is its value.
     ///
     /// The time is linear in the bytes passed, whatever sizes they state.
-    #[tactic(auto, using(crate::proofs::ReaderLemmas::finds_value, crate::proofs::ReaderLemmas::refuses_value))]
+    #[tactic(auto, using(crate::proofs::ReaderLemmas::finds_value, crate::proofs::ReaderLemmas::refuses_value), unfolding(crate::specs::Cursor::FindsSome))]
     pub fn skip(&mut self, ty: u8) -> Result<(), ThriftFault>
         ensures item { FindsSome (IsValue 16 ty) self.old self.new result }
         ensures exact { Skips self.old self.new result (after_value (end_of self.old) 16 ty self.old.rest) }
