@@ -1,28 +1,19 @@
 -- The laws of the spellings.
-use Rattle.std.proofs.Common.{◌≡◌, ℕ, ℤ, ◌<◌, ◌^◌, ◌<ℤ◌, ◌++◌, ◌∷◌, [], List, length, Option, Some, None, Result, Ok, Err, sym, ap, ◌∙◌, lit≤}
+use Rattle.std.proofs.Common.{ℕ, ℤ, ◌<◌, ◌^◌, ◌<ℤ◌, ◌∷◌, [], List, length, Some, None, lit≤}
 use Rattle.std.specs.Prelude.{FitsSigned}
 use Rattle.std.specs.Int.{w16, w32, w64}
-use Rattle.std.proofs.lemmas.List.{append_cancel_right}
 use Rattle.thrift_compact.specs.Spelling.{IsSigned, IsByte, IsBinary, IsType, IsListHeader, IsFieldHeader}
 use Rattle.thrift_compact.specs.Trees.{IsValue}
-use Rattle.thrift_compact.specs.Reading.{Read, Rest, signed_in, byte_in, binary_in, list_header_in, field_header_in, after_value}
+use Rattle.thrift_compact.specs.Reading.{Read, signed_in, byte_in, binary_in, list_header_in, field_header_in, after_value}
 use Rattle.thrift_compact.specs.Shortest.{IsShortest, signed_spelling, binary_spelling, list_spelling, field_spelling}
 use Rattle.thrift_compact.specs.Laws.{NoneBeginsAnother, SaysOne, ReadsBack}
-use Rattle.thrift_compact.proofs.Matching.{Matches, ok_is}
+use Rattle.thrift_compact.proofs.Matching.{Matches}
+use Rattle.thrift_compact.proofs.PrefixLemmas.{none_begins, says, passes_begin}
+use Rattle.thrift_compact.proofs.TreeLemmas.{value_says}
 use Rattle.thrift_compact.proofs.ScalarLemmas.{signed_matches, byte_matches, binary_matches}
 use Rattle.thrift_compact.proofs.HeaderLemmas.{list_header_matches, field_header_matches}
 use Rattle.thrift_compact.proofs.ValueLemmas.{value_passes}
 use Rattle.thrift_compact.proofs.WriterLemmas.{zigzag_32, zigzag_64, signed_shortest, binary_shortest, list_shortest, field_shortest, stop_shortest}
-
-none_begins : {A : Type 0} (R : List ℕ → Read A) (S : List ℕ → A → Type 0) → Matches R S → NoneBeginsAnother S
-none_begins {A} R S m a b x y s t p q e =
-    let same : (s, x) ≡ (t, y) = ok_is (s, x) (t, y) (sym (m.complete a x s p) ∙ ap R e ∙ m.complete b y t q) in
-    let rest : x ≡ y = ap (λ (z : A × List ℕ). z.1) same in
-    (append_cancel_right a b y (ap (λ (z : List ℕ). a ++ z) (sym rest) ∙ e), rest)
-
-says : {A : Type 0} (R : List ℕ → Read A) (S : List ℕ → A → Type 0) → Matches R S → SaysOne S
-says {A} R S m bytes s t p q =
-    ap (λ (z : A × List ℕ). z.0) (ok_is (s, []) (t, []) (sym (m.complete bytes [] s p) ∙ m.complete bytes [] t q))
 
 back : {A : Type 0} (R : List ℕ → Read A) (S : List ℕ → A → Type 0) → Matches R S → (bytes : List ℕ) (x : A) → IsShortest S bytes x → ReadsBack R bytes x
 back R S m bytes x short rest = m.complete bytes rest x short.spells
@@ -43,11 +34,7 @@ pub field_header_begins_none : (last : ℤ) → NoneBeginsAnother (IsFieldHeader
 field_header_begins_none last = none_begins (field_header_in 0 last) (IsFieldHeader last) (field_header_matches 0 last)
 
 pub value_begins_none : (depth ty : ℕ) → NoneBeginsAnother (IsValue depth ty)
-value_begins_none depth ty a b x y s t p q e =
-    let one = (value_passes 0 depth ty).complete a x s p in
-    let two = (value_passes 0 depth ty).complete b y t q in
-    let rest : x ≡ y = ok_is x y (sym one ∙ ap (after_value 0 depth ty) e ∙ two) in
-    (append_cancel_right a b y (ap (λ (z : List ℕ). a ++ z) (sym rest) ∙ e), rest)
+value_begins_none depth ty = passes_begin (after_value 0 depth ty) (IsValue depth ty) (value_passes 0 depth ty)
 
 pub signed_says_one : (limit : ℕ) → SaysOne (IsSigned limit)
 signed_says_one limit = says (signed_in 0 limit) (IsSigned limit) (signed_matches 0 limit)
@@ -63,6 +50,9 @@ list_header_says_one = says (list_header_in 0) IsListHeader (list_header_matches
 
 pub field_header_says_one : (last : ℤ) → SaysOne (IsFieldHeader last)
 field_header_says_one last = says (field_header_in 0 last) (IsFieldHeader last) (field_header_matches 0 last)
+
+pub value_says_one : (depth ty : ℕ) → SaysOne (IsValue depth ty)
+value_says_one = value_says
 
 pub i32_back : (at : ℕ) (z : ℤ) → FitsSigned w32 z → ReadsBack (signed_in at (2 ^ 32)) (signed_spelling z) z
 i32_back at z fits =
@@ -83,7 +73,7 @@ pub field_header_back : (at : ℕ) (last id : ℤ) (ty : ℕ) → last <ℤ id �
     → ReadsBack (field_header_in at last) (field_spelling last id ty) (Some (id, ty))
 field_header_back at last id ty lt good fits =
     back (field_header_in at last) (IsFieldHeader last) (field_header_matches at last) (field_spelling last id ty) (Some (id, ty))
-        (field_shortest last id ty lt good fits)
+    (field_shortest last id ty lt good fits)
 
 pub stop_back : (at : ℕ) (last : ℤ) → ReadsBack (field_header_in at last) (0 ∷ []) None
 stop_back at last = back (field_header_in at last) (IsFieldHeader last) (field_header_matches at last) (0 ∷ []) None (stop_shortest last)

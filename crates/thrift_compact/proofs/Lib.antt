@@ -4,6 +4,9 @@ pub mod Matching
 pub mod ScalarLemmas
 pub mod HeaderLemmas
 pub mod ValueLemmas
+pub mod FaultLemmas
 pub mod ReaderLemmas
 pub mod WriterLemmas
+pub mod PrefixLemmas
+pub mod TreeLemmas
 pub mod LawLemmas

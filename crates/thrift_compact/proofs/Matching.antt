@@ -1,5 +1,5 @@
 -- How reading and spellings fit together: what is read is a spelling, and each spelling is read.
-use Rattle.std.proofs.Common.{◌≡◌, ℕ, ℤ, pos, zero, suc, ◌+◌, ◌-◌, ◌*◌, ◌/◌, ◌%◌, ◌^◌, ◌<◌, ◌≤◌, ◌≢◌, ◌⊎◌, ◌+ℤ◌, ◌<ℤ◌, Bool, true, false, cond, ltb, eqb, ◌&&◌, ◌||◌, List, [], ◌∷◌, ◌++◌, length, take, drop, Option, Some, None, Result, Ok, Err, refl, sym, ap, subst, ◌∙◌, append_assoc, arith, inl, inr}
+use Rattle.std.proofs.Common.{◌≡◌, ℕ, ◌⊎◌, Bool, true, false, cond, List, ◌++◌, Result, Ok, Err, refl, sym, ap, ◌∙◌, append_assoc, inl, inr}
 use Rattle.thrift_compact.specs.declared.fault.ThriftFault.{ThriftFault}
 use Rattle.thrift_compact.specs.Reading.{◌>>=◌, Read}
 use Rattle.thrift_compact.specs.Spelling.{Then}
@@ -67,10 +67,10 @@ guard_sound {A = A} R S p f m bytes y rest e =
     let s = bind_ok (R bytes) (λ x. cond (p x.0) (Ok x) (Err f)) (y, rest) e in
     elim (chosen (p s.0.0) (Ok s.0) (Err f) (Ok (y, rest)) s.2) [
       | inl h ↦
-        let q : s.0 ≡ (y, rest) = ok_is s.0 (y, rest) h.1 in
-        let read : R bytes ≡ Ok (y, rest) = s.1 ∙ h.1 in
-        let i = m.sound bytes y rest read in
-        record { front = i.front; parts = i.parts; spells = (i.spells, ap (λ (t : A × List ℕ). p t.0) (sym q) ∙ h.0) }
+          let q : s.0 ≡ (y, rest) = ok_is s.0 (y, rest) h.1 in
+          let read : R bytes ≡ Ok (y, rest) = s.1 ∙ h.1 in
+          let i = m.sound bytes y rest read in
+          record { front = i.front; parts = i.parts; spells = (i.spells, ap (λ (t : A × List ℕ). p t.0) (sym q) ∙ h.0) }
       | inr h ↦ failed f (y, rest) h.1
     ]
 
@@ -87,9 +87,9 @@ guard_matches R S p f m = record { sound = guard_sound R S p f m; complete = gua
 pub as_matches : {A : Type 0} (R : List ℕ → Read A) (S T : List ℕ → A → Type 0)
     → Matches R S → ((front : List ℕ) (x : A) → S front x → T front x) → ((front : List ℕ) (x : A) → T front x → S front x) → Matches R T
 as_matches R S T m to from = record {
-    sound = λ bytes x rest e. let i = m.sound bytes x rest e in record { front = i.front; parts = i.parts; spells = to i.front x i.spells };
-    complete = λ front rest x h. m.complete front rest x (from front x h);
-  }
+  sound = λ bytes x rest e. let i = m.sound bytes x rest e in record { front = i.front; parts = i.parts; spells = to i.front x i.spells };
+  complete = λ front rest x h. m.complete front rest x (from front x h);
+}
 
 -- a function of an item
 abbrev pub mapped : {A B : Type 0} → (A → B) → A × List ℕ → Read B

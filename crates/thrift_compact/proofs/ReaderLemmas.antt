@@ -1,5 +1,5 @@
 -- What the calls of the reader say by the spellings.
-use Rattle.std.proofs.Common.{◌≡◌, ℕ, ℤ, ◌+◌, ◌++◌, ◌^◌, Option, List, length, Result, Ok, Err, sym, ap, ◌∙◌, arith}
+use Rattle.std.proofs.Common.{◌≡◌, ℕ, ℤ, Option, List, length, Ok, Err, sym, ap, ◌∙◌, arith}
 use Rattle.std.specs.Borrow.{Bor}
 use Rattle.std.proofs.lemmas.List.{length-append}
 use Rattle.thrift_compact.specs.declared.fault.ThriftFault.{ThriftFault}
@@ -11,6 +11,7 @@ use Rattle.thrift_compact.proofs.Matching.{Matches, failed}
 use Rattle.thrift_compact.proofs.ScalarLemmas.{signed_matches, byte_matches, binary_matches}
 use Rattle.thrift_compact.proofs.HeaderLemmas.{list_header_matches, field_header_matches}
 use Rattle.thrift_compact.proofs.ValueLemmas.{value_passes}
+use Rattle.thrift_compact.proofs.FaultLemmas.{signed_names, byte_names, binary_names, list_header_names, field_header_names}
 
 moves_past : {A : Type 0} (R : List ℕ → Read A) (S : List ℕ → A → Type 0) → Matches R S → (old new : Cursor) (x : A)
     → R old.rest ≡ Ok (x, new.rest) → end_of new ≡ end_of old → MovesPast S old new x
@@ -74,3 +75,17 @@ finds_value ty old new read same =
 pub refuses_value : (end ty : ℕ) (bytes : List ℕ) (fault : ThriftFault) → after_value end 16 ty bytes ≡ Err fault → NoneAt (IsValue 16 ty) bytes
 refuses_value end ty bytes fault read =
     record { never = λ front more x parts s. failed fault more (sym read ∙ ap (after_value end 16 ty) parts ∙ (value_passes end 16 ty).complete front more x s) }
+
+-- ---- what each call's clause on its item takes
+
+pub ruleset signed_item = (finds_signed, refuses_signed, signed_names)
+
+pub ruleset byte_item = (finds_byte, refuses_byte, byte_names)
+
+pub ruleset binary_item = (finds_binary, refuses_binary, binary_names)
+
+pub ruleset list_header_item = (finds_list_header, refuses_list_header, list_header_names)
+
+pub ruleset field_header_item = (finds_field_header, refuses_field_header, field_header_names)
+
+pub ruleset value_item = (finds_value, refuses_value)

@@ -1,10 +1,10 @@
 -- Numbers and byte strings: what is read is a spelling, and each spelling is read.
-use Rattle.std.proofs.Common.{◌≡◌, ℕ, ℤ, pos, zero, suc, ◌+◌, ◌-◌, ◌*◌, ◌/◌, ◌%◌, ◌^◌, ◌<◌, ◌≤◌, ◌≢◌, ◌⊎◌, ◌+ℤ◌, ◌<ℤ◌, Bool, true, false, cond, ltb, eqb, ◌&&◌, ◌||◌, List, [], ◌∷◌, ◌++◌, length, take, drop, Option, Some, None, Result, Ok, Err, refl, sym, ap, subst, ◌∙◌, append_assoc, arith, inl, inr}
-use Rattle.std.proofs.lemmas.Bool.{cases_lt, ltb-false, le-ltb, ltb-true, lt-ltb}
+use Rattle.std.proofs.Common.{◌≡◌, ℕ, ℤ, zero, suc, ◌+◌, ◌*◌, ◌%◌, ◌^◌, ◌<◌, ◌≤◌, true, false, ltb, List, [], ◌∷◌, ◌++◌, length, take, drop, Ok, Err, refl, sym, ap, ◌∙◌, arith, inl, inr}
+use Rattle.std.proofs.lemmas.Bool.{ltb-false, le-ltb, ltb-true, lt-ltb}
 use Rattle.std.proofs.lemmas.List.{take_at, drop_at, take-append-drop, length-append, length-take}
 use Rattle.thrift_compact.specs.declared.fault.ThriftFault.TheVariants.{Short, TooWide}
 use Rattle.thrift_compact.specs.Reading.{◌>>=◌, number_in, unsigned_in, signed_in, byte_in, bytes_in, binary_in}
-use Rattle.thrift_compact.specs.Spelling.{IsNumber, IsUnsigned, from_zigzag, IsSigned, signed_byte, IsByte, Then, IsBytes, IsBinary}
+use Rattle.thrift_compact.specs.Spelling.{IsNumber, IsUnsigned, from_zigzag, IsSigned, signed_byte, IsByte, IsBytes, IsBinary}
 use Rattle.thrift_compact.proofs.Matching.{bind_ok, chosen, ok_is, failed, Takes, Matches, then_matches, guard_matches, as_matches, map_matches}
 
 pub number_sound : (at most : ℕ) (bytes : List ℕ) (n : ℕ) (rest : List ℕ) → number_in at most bytes ≡ Ok (n, rest) → Takes (IsNumber most) bytes n rest
@@ -14,15 +14,15 @@ number_sound at (suc most) [] n rest e = failed (Short at) (n, rest) e
 number_sound at (suc most) (b ∷ bs) n rest e =
     elim (chosen (ltb b 128) (Ok (b, bs)) (number_in at most bs >>= λ x. Ok (b % 128 + 128 * x.0, x.1)) (Ok (n, rest)) e) [
       | inl h ↦
-        let p : (b, bs) ≡ (n, rest) = ok_is (b, bs) (n, rest) h.1 in
-        let lt : b < 128 = ltb-true b 128 h.0 in
-        record { front = b ∷ []; parts = ap (λ (q : ℕ × List ℕ). b ∷ q.1) p; spells = inl (lt, refl, sym (ap (λ (q : ℕ × List ℕ). q.0) p)) }
+          let p : (b, bs) ≡ (n, rest) = ok_is (b, bs) (n, rest) h.1 in
+          let lt : b < 128 = ltb-true b 128 h.0 in
+          record { front = b ∷ []; parts = ap (λ (q : ℕ × List ℕ). b ∷ q.1) p; spells = inl (lt, refl, sym (ap (λ (q : ℕ × List ℕ). q.0) p)) }
       | inr h ↦
-        let s = bind_ok (number_in at most bs) (λ x. Ok (b % 128 + 128 * x.0, x.1)) (n, rest) h.1 in
-        let le : 128 ≤ b = ltb-false b 128 h.0 in
-        let p : (b % 128 + 128 * s.0.0, s.0.1) ≡ (n, rest) = ok_is (b % 128 + 128 * s.0.0, s.0.1) (n, rest) s.2 in
-        let i = number_sound at most bs s.0.0 s.0.1 s.1 in
-        record { front = b ∷ i.front; parts = ap (λ (q : List ℕ). b ∷ q) i.parts ∙ ap (λ (q : ℕ × List ℕ). b ∷ (i.front ++ q.1)) p; spells = inr (le, s.0.0, sym (ap (λ (q : ℕ × List ℕ). q.0) p), i.spells) }
+          let s = bind_ok (number_in at most bs) (λ x. Ok (b % 128 + 128 * x.0, x.1)) (n, rest) h.1 in
+          let le : 128 ≤ b = ltb-false b 128 h.0 in
+          let p : (b % 128 + 128 * s.0.0, s.0.1) ≡ (n, rest) = ok_is (b % 128 + 128 * s.0.0, s.0.1) (n, rest) s.2 in
+          let i = number_sound at most bs s.0.0 s.0.1 s.1 in
+          record { front = b ∷ i.front; parts = ap (λ (q : List ℕ). b ∷ q) i.parts ∙ ap (λ (q : ℕ × List ℕ). b ∷ (i.front ++ q.1)) p; spells = inr (le, s.0.0, sym (ap (λ (q : ℕ × List ℕ). q.0) p), i.spells) }
     ]
 
 pub number_complete : (at most : ℕ) (front rest : List ℕ) (n : ℕ) → IsNumber most front n → number_in at most (front ++ rest) ≡ Ok (n, rest)
@@ -39,8 +39,8 @@ pub unsigned_matches : (at limit : ℕ) → Matches (unsigned_in at limit) (IsUn
 unfolding unsigned_in
 unsigned_matches at limit =
     as_matches (λ bytes. unsigned_in at limit bytes) (λ front n. IsNumber 10 front n × (ltb n limit ≡ true)) (IsUnsigned limit)
-        (guard_matches (number_in at 10) (IsNumber 10) (λ n. ltb n limit) (TooWide at) (number_matches at 10))
-        (λ front n h. (h.0, ltb-true n limit h.1)) (λ front n h. (h.0, lt-ltb n limit h.1))
+    (guard_matches (number_in at 10) (IsNumber 10) (λ n. ltb n limit) (TooWide at) (number_matches at 10))
+    (λ front n h. (h.0, ltb-true n limit h.1)) (λ front n h. (h.0, lt-ltb n limit h.1))
 
 pub signed_matches : (at limit : ℕ) → Matches (signed_in at limit) (IsSigned limit)
 unfolding signed_in
@@ -52,11 +52,11 @@ bytes_sound at count bytes text rest e =
     elim (chosen (ltb (length bytes) count) (Err (Short at)) (Ok (take count bytes, drop count bytes)) (Ok (text, rest)) e) [
       | inl h ↦ failed (Short at) (text, rest) h.1
       | inr h ↦
-        let q : (take count bytes, drop count bytes) ≡ (text, rest) = ok_is (take count bytes, drop count bytes) (text, rest) h.1 in
-        let text-is : take count bytes ≡ text = ap (λ (t : List ℕ × List ℕ). t.0) q in
-        let rest-is : drop count bytes ≡ rest = ap (λ (t : List ℕ × List ℕ). t.1) q in
-        let long : count ≤ length bytes = ltb-false (length bytes) count h.0 in
-        record { front = text; parts = sym (take-append-drop count bytes) ∙ cc; spells = (refl, omega (arith, ap length text-is, length-take count bytes)) }
+          let q : (take count bytes, drop count bytes) ≡ (text, rest) = ok_is (take count bytes, drop count bytes) (text, rest) h.1 in
+          let text-is : take count bytes ≡ text = ap (λ (t : List ℕ × List ℕ). t.0) q in
+          let rest-is : drop count bytes ≡ rest = ap (λ (t : List ℕ × List ℕ). t.1) q in
+          let long : count ≤ length bytes = ltb-false (length bytes) count h.0 in
+          record { front = text; parts = sym (take-append-drop count bytes) ∙ cc; spells = (refl, omega (arith, ap length text-is, length-take count bytes)) }
     ]
 
 bytes_complete : (at count : ℕ) (front rest text : List ℕ) → IsBytes count front text → bytes_in at count (front ++ rest) ≡ Ok (text, rest)

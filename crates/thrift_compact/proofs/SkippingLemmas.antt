@@ -1,8 +1,6 @@
-use Rattle.std.proofs.Common.{◌≡◌, ℕ, ℤ, pos, zero, suc, ◌+◌, ◌-◌, ◌<◌, ◌≤◌, ◌≢◌, List, length, Result, Ok, Err, Option, Some, None, refl, sym, ap, ◌∙◌, arith, rules, Bool, true, false, ◌||◌}
-use Rattle.std.specs.Prelude.{◌==◌, if◌then◌else◌}
-use Rattle.thrift_compact.specs.declared.fault.ThriftFault.{ThriftFault}
+use Rattle.std.proofs.Common.{◌≡◌, ℕ, ℤ, zero, suc, ◌+◌, ◌-◌, ◌<◌, ◌≤◌, List, Ok, Err, Option, Some, None, refl, arith, true, false}
 use Rattle.thrift_compact.specs.declared.fault.ThriftFault.TheVariants.{Short, TooDeep}
-use Rattle.thrift_compact.specs.Reading.{◌>>=◌, Rest, start_of, after_each, after_fields, after_value, field_header_in, list_header_in, map_header_in, after_plain, after_element, after_entry, is_nested, after_nested}
+use Rattle.thrift_compact.specs.Reading.{◌>>=◌, Rest, start_of, after_each, after_fields, after_value, field_header_in, after_plain, is_nested, after_nested}
 
 pub each_step : (step : List ℕ → Rest) (count i : ℕ) (bytes : List ℕ) → i < count → after_each step (count - i) bytes ≡ (step bytes >>= after_each step (count - (i + 1)))
 unfolding after_each
@@ -48,3 +46,9 @@ value_nested end (suc depth) ty bytes lt h =
 pub value_deep : (end ty : ℕ) (bytes : List ℕ) → is_nested ty ≡ true → after_value end 0 ty bytes ≡ Err (TooDeep (start_of end bytes))
 unfolding after_value
 value_deep end ty bytes h = rw h refl
+
+pub ruleset each_turn = (each_step, each_done)
+
+pub ruleset fields_turn = (fields_step, fields_done)
+
+pub ruleset value_cases = (value_nested, value_plain, value_deep)

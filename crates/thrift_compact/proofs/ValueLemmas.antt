@@ -1,10 +1,10 @@
 -- Values: what is passed over is a value, and each value is passed over.
-use Rattle.std.proofs.Common.{◌≡◌, ℕ, ℤ, pos, zero, suc, ◌+◌, ◌-◌, ◌*◌, ◌/◌, ◌%◌, ◌^◌, ◌<◌, ◌≤◌, ◌≢◌, ◌⊎◌, ◌+ℤ◌, ◌<ℤ◌, Bool, true, false, cond, ltb, eqb, ◌&&◌, ◌||◌, List, [], ◌∷◌, ◌++◌, length, take, drop, Option, Some, None, Result, Ok, Err, refl, sym, ap, subst, ◌∙◌, append_assoc, arith, inl, inr}
-use Rattle.std.proofs.lemmas.Bool.{ltb-false, le-ltb, ltb-true, lt-ltb, eqb-true}
+use Rattle.std.proofs.Common.{◌≡◌, ℕ, ℤ, pos, zero, suc, ◌^◌, ◌<◌, ◌≤◌, ◌≢◌, ◌⊎◌, Bool, true, false, cond, eqb, ◌||◌, List, [], ◌∷◌, ◌++◌, length, Option, Some, None, Ok, Err, refl, sym, ap, subst, ◌∙◌, append_assoc, arith, inl, inr}
+use Rattle.std.proofs.lemmas.Bool.{eqb-true}
 use Rattle.std.proofs.lemmas.List.{length-append, append-nil}
 use Rattle.thrift_compact.specs.declared.fault.ThriftFault.TheVariants.{Short, BadType, TooDeep}
 use Rattle.thrift_compact.specs.Reading.{◌>>=◌, Read, Rest, rest_of, start_of, signed_in, bytes_in, binary_in, after_plain, is_nested, list_header_in, field_header_in, after_each, map_header_in, after_element, after_entry, after_fields, after_nested, after_value}
-use Rattle.thrift_compact.specs.Spelling.{IsUnsigned, IsSigned, Then, IsBytes, IsBinary, IsListHeader, IsEntryTypes, IsField, IsFieldHeader}
+use Rattle.thrift_compact.specs.Spelling.{IsUnsigned, IsSigned, Then, IsBytes, IsBinary, IsFieldHeader}
 use Rattle.thrift_compact.specs.Trees.{Tree, Flag, Byte, Int16, Int32, Int64, Double, Binary, Elements, Entries, Fields, TreeList, Nil, Cons, FieldList, Stop, Field, IsPlain, IsSequence, IsEntries, IsElement, IsFields, IsMap, IsNested, IsValue}
 use Rattle.thrift_compact.proofs.SkippingLemmas.{after_field}
 use Rattle.thrift_compact.proofs.Matching.{bind_ok, ok_is, failed, Takes, Matches, done}
@@ -142,11 +142,11 @@ unfolding after_element
 element_sound end value V m ty bytes rest e =
     taken (eqb ty 1 || eqb ty 2) _ _ rest
     (λ p one. seen (bytes_in (start_of end bytes) 1) (IsBytes 1) (IsElement V ty) (bytes_matches (start_of end bytes) 1)
-        (λ front x s. let b = text_of_byte front x s in (Flag b.0, inl (is_flag ty p, (b.0, refl, s.0 ∙ b.1)))) bytes rest one)
+    (λ front x s. let b = text_of_byte front x s in (Flag b.0, inl (is_flag ty p, (b.0, refl, s.0 ∙ b.1)))) bytes rest one)
     (λ p other.
-        let i = (m ty).sound bytes rest other in
-        let ne = no_flag ty p in
-        record { value = i.value; front = i.front; parts = i.parts; spells = inr (ne.0, ne.1, i.spells) }) e
+    let i = (m ty).sound bytes rest other in
+    let ne = no_flag ty p in
+    record { value = i.value; front = i.front; parts = i.parts; spells = inr (ne.0, ne.1, i.spells) }) e
 
 element_complete : (end : ℕ) (value : ℕ → List ℕ → Rest) (V : ℕ → List ℕ → Tree → Type 0) → ((ty : ℕ) → Passes (value ty) (V ty)) → (ty : ℕ) (front rest : List ℕ) (tree : Tree)
     → IsElement V ty front tree → after_element end value ty (front ++ rest) ≡ Ok rest
@@ -231,7 +231,7 @@ fields_again end value V m (suc most) last front rest (Field id ty tree fields) 
     let regrouped : front ++ rest ≡ a ++ (b ++ (c ++ rest)) = ap (λ (p : List ℕ). p ++ rest) parts ∙ simp append_assoc in
     let shorter : length c ≤ most = omega (arith, ap length parts, length-append a (b ++ c), length-append b c, field_long last a (id, ty) header) in
     let one : field_header_in (start_of end (front ++ rest)) last (front ++ rest) ≡ Ok (Some (id, ty), b ++ (c ++ rest)) =
-        ap (field_header_in (start_of end (front ++ rest)) last) regrouped ∙ (field_header_matches (start_of end (front ++ rest)) last).complete a (b ++ (c ++ rest)) (Some (id, ty)) header in
+    ap (field_header_in (start_of end (front ++ rest)) last) regrouped ∙ (field_header_matches (start_of end (front ++ rest)) last).complete a (b ++ (c ++ rest)) (Some (id, ty)) header in
     let two : value ty (b ++ (c ++ rest)) ≡ Ok (c ++ rest) = (m ty).complete b (c ++ rest) tree v in
     rw (one, two) (fields_again end value V m most id c rest fields others shorter)
 
@@ -257,27 +257,34 @@ unfolding after_nested
 nested_sound end value V m ty bytes rest nest =
     taken (eqb ty 12) _ _ rest
     (λ p e. let i = fields_sound end value V m (length bytes) (pos 0) bytes rest e in
-        record { value = Fields i.value; front = i.front; parts = i.parts; spells = (eqb-true ty 12 p, i.spells) })
+    record { value = Fields i.value; front = i.front; parts = i.parts; spells = (eqb-true ty 12 p, i.spells) })
     (λ n12. taken (eqb ty 11) _ _ rest
-        (λ p e. of_map (eqb-true ty 11 p) e)
-        (λ n11 e. of_list (grind arith) e))
+    (λ p e. of_map (eqb-true ty 11 p) e)
+    (λ n11 e. of_list (grind arith) e))
   where
     of_map : ty ≡ 11 → (map_header_in (start_of end bytes) bytes >>= λ m. after_each (after_entry end value m.0.0 m.0.1) m.0.2 m.1) ≡ Ok rest → Passed (IsNested V ty) bytes rest
     of_map is e =
         let s = bind_ok (map_header_in (start_of end bytes) bytes) (λ m. after_each (after_entry end value m.0.0 m.0.1) m.0.2 m.1) rest e in
         let i = (map_header_matches (start_of end bytes)).sound bytes s.0.0 s.0.1 s.1 in
         let j = entry_parts end value V m s.0.0.0 s.0.0.1 s.0.0.2 s.0.1 rest s.2 in
-        record { value = Entries j.value; front = i.front ++ j.front;
-            parts = i.parts ∙ ap (λ (t : List ℕ). i.front ++ t) j.parts ∙ sym (append_assoc i.front j.front rest);
-            spells = (is, map_is V s.0.0 i.front j.front j.value i.spells j.spells) }
+        record {
+          value = Entries j.value;
+          front = i.front ++ j.front;
+          parts = i.parts ∙ ap (λ (t : List ℕ). i.front ++ t) j.parts ∙ sym (append_assoc i.front j.front rest);
+          spells = (is, map_is V s.0.0 i.front j.front j.value i.spells j.spells);
+        }
+
     of_list : (ty ≡ 9) ⊎ (ty ≡ 10) → (list_header_in (start_of end bytes) bytes >>= λ l. after_each (after_element end value l.0.0) l.0.1 l.1) ≡ Ok rest → Passed (IsNested V ty) bytes rest
     of_list is e =
         let s = bind_ok (list_header_in (start_of end bytes) bytes) (λ l. after_each (after_element end value l.0.0) l.0.1 l.1) rest e in
         let i = (list_header_matches (start_of end bytes)).sound bytes s.0.0 s.0.1 s.1 in
         let j = (sequence_passes (after_element end value s.0.0.0) (IsElement V s.0.0.0) (element_passes end value V m s.0.0.0) s.0.0.1).sound s.0.1 rest s.2 in
-        record { value = Elements ty j.value; front = i.front ++ j.front;
-            parts = i.parts ∙ ap (λ (t : List ℕ). i.front ++ t) j.parts ∙ sym (append_assoc i.front j.front rest);
-            spells = (refl, is, (s.0.0, i.front, j.front, refl, i.spells, j.spells)) }
+        record {
+          value = Elements ty j.value;
+          front = i.front ++ j.front;
+          parts = i.parts ∙ ap (λ (t : List ℕ). i.front ++ t) j.parts ∙ sym (append_assoc i.front j.front rest);
+          spells = (refl, is, (s.0.0, i.front, j.front, refl, i.spells, j.spells));
+        }
 
 nested_complete : (end : ℕ) (value : ℕ → List ℕ → Rest) (V : ℕ → List ℕ → Tree → Type 0) → ((ty : ℕ) → Passes (value ty) (V ty)) → (ty : ℕ) (front rest : List ℕ) (tree : Tree)
     → IsNested V ty front tree → after_nested end value ty (front ++ rest) ≡ Ok rest
@@ -286,17 +293,17 @@ nested_complete end value V m ty front rest (Fields fields) (is, h) =
     rw is (fields_again end value V m (length (front ++ rest)) (pos 0) front rest fields h (omega (arith, length-append front rest)))
 nested_complete end value V m ty front rest (Entries trees) (is, inl h) =
     let one : map_header_in (start_of end (front ++ rest)) (front ++ rest) ≡ Ok ((0, 0, 0), rest) =
-        (map_header_matches (start_of end (front ++ rest))).complete front rest (0, 0, 0) (0, front, [], sym (append-nil front), h.0, inl (refl, refl, refl)) in
+    (map_header_matches (start_of end (front ++ rest))).complete front rest (0, 0, 0) (0, front, [], sym (append-nil front), h.0, inl (refl, refl, refl)) in
     rw (is, one) refl
 nested_complete end value V m ty front rest (Entries trees) (is, inr (n, key, vty, a, b, c, parts, ne, unsigned_in, types, pairs)) =
     let regrouped : front ++ rest ≡ (a ++ b) ++ (c ++ rest) = ap (λ (p : List ℕ). p ++ rest) parts ∙ simp append_assoc in
     let one : map_header_in (start_of end (front ++ rest)) (front ++ rest) ≡ Ok ((key, vty, n), c ++ rest) =
-        ap (map_header_in (start_of end (front ++ rest))) regrouped ∙ (map_header_matches (start_of end (front ++ rest))).complete (a ++ b) (c ++ rest) (key, vty, n) (n, a, b, refl, unsigned_in, inr (ne, refl, types)) in
+    ap (map_header_in (start_of end (front ++ rest))) regrouped ∙ (map_header_matches (start_of end (front ++ rest))).complete (a ++ b) (c ++ rest) (key, vty, n) (n, a, b, refl, unsigned_in, inr (ne, refl, types)) in
     rw (is, one) (entry_again end value V m key vty n c rest trees pairs)
 nested_complete end value V m ty front rest (Elements t trees) (is, list, (header, a, b, parts, h, row)) =
     let regrouped : front ++ rest ≡ a ++ (b ++ rest) = ap (λ (p : List ℕ). p ++ rest) parts ∙ append_assoc a b rest in
     let one : list_header_in (start_of end (front ++ rest)) (front ++ rest) ≡ Ok (header, b ++ rest) =
-        ap (list_header_in (start_of end (front ++ rest))) regrouped ∙ (list_header_matches (start_of end (front ++ rest))).complete a (b ++ rest) header h in
+    ap (list_header_in (start_of end (front ++ rest))) regrouped ∙ (list_header_matches (start_of end (front ++ rest))).complete a (b ++ rest) header h in
     let two = (sequence_passes (after_element end value header.0) (IsElement V header.0) (element_passes end value V m header.0) header.1).complete b rest trees row in
     elim list [ inl e ↦ rw (is, e, one) two | inr e ↦ rw (is, e, one) two ]
 nested_complete end value V m ty front rest (Flag v) h = absurd h
@@ -307,7 +314,7 @@ nested_complete end value V m ty front rest (Int64 v) h = absurd h
 nested_complete end value V m ty front rest (Double v) h = absurd h
 nested_complete end value V m ty front rest (Binary v) h = absurd h
 
-nested_type : (V : ℕ → List ℕ → Tree → Type 0) (ty : ℕ) (front : List ℕ) (tree : Tree) → IsNested V ty front tree → is_nested ty ≡ true
+pub nested_type : (V : ℕ → List ℕ → Tree → Type 0) (ty : ℕ) (front : List ℕ) (tree : Tree) → IsNested V ty front tree → is_nested ty ≡ true
 nested_type V ty front (Fields fields) h = rw h.0 refl
 nested_type V ty front (Entries trees) h = rw h.0 refl
 nested_type V ty front (Elements t trees) h = elim h.1 [ inl e ↦ rw (h.0, e) refl | inr e ↦ rw (h.0, e) refl ]
@@ -319,7 +326,7 @@ nested_type V ty front (Int64 v) h = absurd h
 nested_type V ty front (Double v) h = absurd h
 nested_type V ty front (Binary v) h = absurd h
 
-plain_is : (ty : ℕ) (front : List ℕ) (tree : Tree) → IsPlain ty front tree → is_nested ty ≡ false
+pub plain_is : (ty : ℕ) (front : List ℕ) (tree : Tree) → IsPlain ty front tree → is_nested ty ≡ false
 plain_is ty front tree h = let t = plain_type ty front tree h in let a : ty < 9 = t.1 in grind arith
 
 wider : {A : Type 0} (S T : List ℕ → A → Type 0) (bytes rest : List ℕ) → ((front : List ℕ) (x : A) → S front x → T front x) → Passed S bytes rest → Passed T bytes rest

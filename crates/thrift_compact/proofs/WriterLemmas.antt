@@ -1,12 +1,12 @@
 -- What is written spells its item, no spelling is shorter, and it reads back.
-use Rattle.std.proofs.Common.{◌≡◌, ℕ, ℤ, pos, negsuc, zero, suc, ◌+◌, ◌-◌, ◌*◌, ◌/◌, ◌%◌, ◌^◌, ◌+ℤ◌, ◌-ℤ◌, ◌<ℤ◌, ◌⊎◌, ◌<◌, ◌≤◌, List, [], ◌∷◌, ◌++◌, length, Option, Some, None, refl, sym, ap, subst, ◌∙◌, append_assoc, ltb, Bool, true, false, lit≤, arith, inl, inr}
-use Rattle.std.specs.Prelude.{nat_lt, if◌then◌else◌, unsigned_abs, int_lt, int_le, FitsSigned}
+use Rattle.std.proofs.Common.{◌≡◌, ℕ, ℤ, pos, negsuc, zero, suc, ◌+◌, ◌-◌, ◌*◌, ◌/◌, ◌%◌, ◌^◌, ◌+ℤ◌, ◌-ℤ◌, ◌<ℤ◌, ◌⊎◌, ◌<◌, ◌≤◌, List, [], ◌∷◌, ◌++◌, length, Some, None, refl, sym, ap, subst, ◌∙◌, append_assoc, ltb, Bool, true, false, lit≤, arith, inl, inr}
+use Rattle.std.specs.Prelude.{nat_lt, if◌then◌else◌, unsigned_abs, int_le, FitsSigned}
 use Rattle.std.proofs.lemmas.Bool.{le-ltb, lt-ltb, cases_lt}
 use Rattle.std.specs.Int.{w16, w32, w64}
 use Rattle.std.proofs.lemmas.Int.{ints}
 use Rattle.std.proofs.lemmas.List.{append-nil, length-append}
 use Rattle.std.proofs.Math.Nat.{pow-succ'}
-use Rattle.thrift_compact.specs.Spelling.{IsNumber, IsUnsigned, from_zigzag, IsSigned, IsBytes, IsBinary, IsType, IsListHeader, IsField, IsFieldHeader}
+use Rattle.thrift_compact.specs.Spelling.{IsNumber, IsUnsigned, from_zigzag, IsSigned, IsBinary, IsType, IsListHeader, IsField, IsFieldHeader}
 use Rattle.thrift_compact.specs.Shortest.{number_spelling, unsigned_spelling, to_zigzag, signed_spelling, binary_spelling, list_spelling, field_spelling, IsShortest, Appends}
 
 -- ---- the loop that writes a number
@@ -29,10 +29,12 @@ pub more_bytes : (items : List ℕ) (count i n : ℕ) (total : List ℕ) → i <
 more_bytes items count i n total lt le h =
     let t : ltb n 128 ≡ false = le-ltb n 128 le in
     append_assoc items ((128 + n % 128) ∷ []) (number_spelling (count - (i + 1)) (n / 128))
-        ∙ ap (λ (x : List ℕ). items ++ x) (sym (number_step count i n lt ∙ rw t refl)) ∙ h
+    ∙ ap (λ (x : List ℕ). items ++ x) (sym (number_step count i n lt ∙ rw t refl)) ∙ h
 
 pub no_more : (items : List ℕ) (count i n : ℕ) (total : List ℕ) → count ≤ i → items ++ number_spelling (count - i) n ≡ total → items ≡ total
 no_more items count i n total le h = sym (append-nil items) ∙ ap (λ (x : List ℕ). items ++ x) (sym (number_done count i n le)) ∙ h
+
+pub ruleset number_turn = (number_step, number_done)
 
 -- ---- numbers
 
@@ -63,16 +65,16 @@ number_least (suc m) (suc k) n (b ∷ bs) (inr h) =
     elim (cases_lt n 128) [
       | inl small ↦ rw (lt-ltb n 128 small) (omega arith)
       | inr big ↦
-        let high : n / 128 ≡ h.1 = omega (arith, h.2) in
-        let rest = number_least m k h.1 bs h.3 in
-        rw (le-ltb n 128 big, high) (omega (arith, rest))
+          let high : n / 128 ≡ h.1 = omega (arith, h.2) in
+          let rest = number_least m k h.1 bs h.3 in
+          rw (le-ltb n 128 big, high) (omega (arith, rest))
     ]
 
 pub unsigned_shortest : (limit n : ℕ) → n < limit → limit ≤ 2 ^ 64 → IsShortest (IsUnsigned limit) (unsigned_spelling n) n
 unsigned_shortest limit n lt le = record {
-    spells = (number_spelled 9 n (omega arith), lt);
-    least = λ other s. number_least 10 10 n other s.0;
-  }
+  spells = (number_spelled 9 n (omega arith), lt);
+  least = λ other s. number_least 10 10 n other s.0;
+}
 
 from_zigzag-to_zigzag : (z : ℤ) → from_zigzag (to_zigzag z) ≡ z
 from_zigzag-to_zigzag (pos n) = grind (arith)
@@ -132,13 +134,13 @@ unfolding list_spelling
 list_spelled ty size good lt =
     elim (cases_lt size 15) [
       | inl few ↦
-        let t : (16 * size + ty) % 16 ≡ ty = omega arith in
-        let s : (16 * size + ty) / 16 % 16 ≡ size = omega arith in
-        rw (lt-ltb size 15 few) (rw (t, s) (refl, good, inr (omega arith, refl, refl)))
+          let t : (16 * size + ty) % 16 ≡ ty = omega arith in
+          let s : (16 * size + ty) / 16 % 16 ≡ size = omega arith in
+          rw (lt-ltb size 15 few) (rw (t, s) (refl, good, inr (omega arith, refl, refl)))
       | inr many ↦
-        let t : (240 + ty) % 16 ≡ ty = omega arith in
-        let s : (240 + ty) / 16 % 16 ≡ 15 = omega arith in
-        rw (le-ltb size 15 many) (rw (t, s) (refl, good, inl (refl, (unsigned_shortest (2 ^ 32) size lt (lit≤ tt)).spells)))
+          let t : (240 + ty) % 16 ≡ ty = omega arith in
+          let s : (240 + ty) / 16 % 16 ≡ 15 = omega arith in
+          rw (le-ltb size 15 many) (rw (t, s) (refl, good, inl (refl, (unsigned_shortest (2 ^ 32) size lt (lit≤ tt)).spells)))
     ]
 
 list_least : (ty size : ℕ) (other : List ℕ) → size < 2 ^ 32 → IsListHeader other (ty, size) → length (list_spelling ty size) ≤ length other
@@ -171,15 +173,15 @@ unfolding field_spelling
 field_spelled last id ty lt good fits wide =
     elim (cases_bool (int_le id (last +ℤ pos 15))) [
       | inl le ↦
-        let n = near last id lt le in
-        let t : (16 * unsigned_abs (id -ℤ last) + ty) % 16 ≡ ty = omega arith in
-        let s : (16 * unsigned_abs (id -ℤ last) + ty) / 16 % 16 ≡ unsigned_abs (id -ℤ last) = omega arith in
-        let same : id ≡ last +ℤ pos (unsigned_abs (id -ℤ last)) = step_is last id lt in
-        rw le (rw (t, s) (refl, good, inr (omega arith, refl, same, subst (λ (z : ℤ). z <ℤ pos 32768) same fits)))
+          let n = near last id lt le in
+          let t : (16 * unsigned_abs (id -ℤ last) + ty) % 16 ≡ ty = omega arith in
+          let s : (16 * unsigned_abs (id -ℤ last) + ty) / 16 % 16 ≡ unsigned_abs (id -ℤ last) = omega arith in
+          let same : id ≡ last +ℤ pos (unsigned_abs (id -ℤ last)) = step_is last id lt in
+          rw le (rw (t, s) (refl, good, inr (omega arith, refl, same, subst (λ (z : ℤ). z <ℤ pos 32768) same fits)))
       | inr far ↦
-        let t : ty % 16 ≡ ty = omega arith in
-        let s : ty / 16 % 16 ≡ 0 = omega arith in
-        rw far (rw (t, s) (refl, good, inl (refl, (signed_shortest (2 ^ 16) id wide (lit≤ tt)).spells)))
+          let t : ty % 16 ≡ ty = omega arith in
+          let s : ty / 16 % 16 ≡ 0 = omega arith in
+          rw far (rw (t, s) (refl, good, inl (refl, (signed_shortest (2 ^ 16) id wide (lit≤ tt)).spells)))
     ]
 
 field_least : (last id : ℤ) (ty : ℕ) (other : List ℕ) → to_zigzag id < 2 ^ 16 → IsField last other (id, ty) → length (field_spelling last id ty) ≤ length other

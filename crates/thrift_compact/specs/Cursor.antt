@@ -2,6 +2,7 @@
 use Rattle.std.specs.Prelude.{◌≡◌, ℕ, ◌+◌, ◌++◌, length, List, Result, Ok, Err, ⊤}
 use Rattle.std.specs.Borrow.{Bor}
 use Rattle.thrift_compact.specs.declared.fault.ThriftFault.{ThriftFault}
+use Rattle.thrift_compact.specs.declared.fault.ThriftFault.TheVariants.{Short, BadType, TooDeep, TooWide}
 use Rattle.thrift_compact.specs.Reading.{Read, Rest}
 
 pub record Cursor : Type 0 where
@@ -28,10 +29,17 @@ pub record MovesPastSome {A : Type 0} (S : List ℕ → A → Type 0) (old new :
 pub record NoneAt {A : Type 0} (S : List ℕ → A → Type 0) (bytes : List ℕ) : Type 0 where
   pub never : (front more : List ℕ) (x : A) → bytes ≡ front ++ more → S front x → ⊥
 
--- What was read is the item at this place. A fault says that there is none, and the reader stands where it stood.
+-- the offset that a fault names
+abbrev pub place_of : ThriftFault → ℕ
+place_of (Short at) = at
+place_of (BadType at ty) = at
+place_of (TooDeep at) = at
+place_of (TooWide at) = at
+
+-- What was read is the item at this place. A fault says that there is none, and names the place; the reader stands where it stood.
 unfoldable pub Finds : {A : Type 0} → (List ℕ → A → Type 0) → Cursor → Cursor → Result A ThriftFault → Type 0
 Finds S old new (Ok x) = MovesPast S old new x
-Finds S old new (Err fault) = NoneAt S old.rest × (new ≡ old)
+Finds S old new (Err fault) = NoneAt S old.rest × (place_of fault ≡ old.at) × (new ≡ old)
 
 -- What was read is what reading gives, and the reader has moved past it. After a fault it stands where it stood.
 abbrev pub Reads : {A : Type 0} → Cursor → Cursor → Result A ThriftFault → Read A → Type 0

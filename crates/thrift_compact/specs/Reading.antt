@@ -1,5 +1,5 @@
 -- What is read from the front of bytes, or the first fault that is met.
-use Rattle.std.specs.Prelude.{◌≡◌, ℕ, ℤ, pos, zero, suc, ◌+◌, ◌-◌, ◌*◌, ◌/◌, ◌%◌, ◌^◌, ◌+ℤ◌, int_lt, List, [], ◌∷◌, length, take, drop, Option, Some, None, Result, Ok, Err, Bool, false, nat_lt, nat_le, ◌==◌, ◌||◌, ◌&&◌, if◌then◌else◌}
+use Rattle.std.specs.Prelude.{ℕ, ℤ, pos, zero, suc, ◌+◌, ◌-◌, ◌*◌, ◌%◌, ◌^◌, ◌+ℤ◌, int_lt, List, [], ◌∷◌, length, take, drop, Option, Some, None, Result, Ok, Err, Bool, false, nat_lt, nat_le, ◌==◌, ◌||◌, ◌&&◌, if◌then◌else◌}
 use Rattle.thrift_compact.specs.declared.fault.ThriftFault.{ThriftFault}
 use Rattle.thrift_compact.specs.declared.fault.ThriftFault.TheVariants.{Short, BadType, TooDeep, TooWide}
 use Rattle.thrift_compact.specs.declared.types.TheConstants.{TRUE, FALSE, BYTE, I16, I32, I64, DOUBLE, BINARY, LIST, MAP, STRUCT}
@@ -83,8 +83,8 @@ field_header_in at last (b ∷ rest) =
     if b == 0 then Ok (None, rest) else
     if is_type (low_bits b)
     then (if high_bits b == 0
-        then (signed_in at (2 ^ 16) rest >>= λ x. Ok (Some (x.0, low_bits b), x.1))
-        else (if int_lt (last +ℤ pos (high_bits b)) (pos 32768) then Ok (Some (last +ℤ pos (high_bits b), low_bits b), rest) else Err (TooWide at)))
+    then (signed_in at (2 ^ 16) rest >>= λ x. Ok (Some (x.0, low_bits b), x.1))
+    else (if int_lt (last +ℤ pos (high_bits b)) (pos 32768) then Ok (Some (last +ℤ pos (high_bits b), low_bits b), rest) else Err (TooWide at)))
     else Err (BadType at (low_bits b))
 
 -- the types of the keys and of the values, before so many entries

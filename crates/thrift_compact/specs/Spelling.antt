@@ -1,5 +1,5 @@
 -- The compact protocol: which bytes spell which item. Nothing here says how items are read or written.
-use Rattle.std.specs.Prelude.{◌≡◌, ◌≢◌, ℕ, ℤ, pos, negsuc, zero, suc, ◌+◌, ◌-◌, ◌*◌, ◌/◌, ◌%◌, ◌^◌, ◌<◌, ◌≤◌, ◌+ℤ◌, ◌<ℤ◌, ◌⊎◌, List, [], ◌∷◌, ◌++◌, length, Option, Some, None, Bool, nat_lt, ◌==◌, if◌then◌else◌}
+use Rattle.std.specs.Prelude.{◌≡◌, ◌≢◌, ℕ, ℤ, pos, negsuc, zero, suc, ◌+◌, ◌-◌, ◌*◌, ◌/◌, ◌%◌, ◌^◌, ◌<◌, ◌≤◌, ◌+ℤ◌, ◌<ℤ◌, ◌⊎◌, List, [], ◌∷◌, ◌++◌, length, Option, Some, None, nat_lt, ◌==◌, if◌then◌else◌}
 
 -- ---- numbers
 
@@ -62,7 +62,7 @@ abbrev pub IsListHeader : List ℕ → ℕ × ℕ → Type 0
 IsListHeader [] header = ⊥
 IsListHeader (b ∷ bs) header =
     (header.0 ≡ low_bits b) × IsType (low_bits b)
-        × (((high_bits b ≡ 15) × IsUnsigned (2 ^ 32) bs header.1) ⊎ ((high_bits b ≢ 15) × (header.1 ≡ high_bits b) × (bs ≡ [])))
+    × (((high_bits b ≡ 15) × IsUnsigned (2 ^ 32) bs header.1) ⊎ ((high_bits b ≢ 15) × (header.1 ≡ high_bits b) × (bs ≡ [])))
 
 -- a byte with the types of a map's keys and values
 abbrev pub IsEntryTypes : List ℕ → ℕ × ℕ → Type 0
@@ -75,8 +75,8 @@ abbrev pub IsField : ℤ → List ℕ → ℤ × ℕ → Type 0
 IsField last [] field = ⊥
 IsField last (b ∷ bs) field =
     (field.1 ≡ low_bits b) × IsType (low_bits b)
-        × (((high_bits b ≡ 0) × IsSigned (2 ^ 16) bs field.0)
-            ⊎ ((high_bits b ≢ 0) × (bs ≡ []) × (field.0 ≡ last +ℤ pos (high_bits b)) × ((last +ℤ pos (high_bits b)) <ℤ pos 32768)))
+    × (((high_bits b ≡ 0) × IsSigned (2 ^ 16) bs field.0)
+    ⊎ ((high_bits b ≢ 0) × (bs ≡ []) × (field.0 ≡ last +ℤ pos (high_bits b)) × ((last +ℤ pos (high_bits b)) <ℤ pos 32768)))
 
 -- a field's header, or a struct's stop, which is a zero byte
 abbrev pub IsFieldHeader : ℤ → List ℕ → Option (ℤ × ℕ) → Type 0

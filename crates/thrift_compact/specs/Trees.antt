@@ -59,21 +59,21 @@ IsEntries S T (suc n) bytes (Cons key (Cons tree trees)) =
 abbrev pub IsElement : (ℕ → List ℕ → Tree → Type 0) → ℕ → List ℕ → Tree → Type 0
 IsElement value ty bytes tree =
     (((ty ≡ TRUE) ⊎ (ty ≡ FALSE)) × ((code : ℕ) × (tree ≡ Flag code) × (bytes ≡ code ∷ [])))
-        ⊎ ((ty ≢ TRUE) × (ty ≢ FALSE) × value ty bytes tree)
+    ⊎ ((ty ≢ TRUE) × (ty ≢ FALSE) × value ty bytes tree)
 
 -- a struct's fields behind the field `last`, up to the stop
 abbrev pub IsFields : (ℕ → List ℕ → Tree → Type 0) → ℤ → List ℕ → FieldList → Type 0
 IsFields value last bytes Stop = bytes ≡ 0 ∷ []
 IsFields value last bytes (Field id ty tree fields) =
     (a : List ℕ) × (b : List ℕ) × (c : List ℕ) × (bytes ≡ a ++ (b ++ c))
-        × IsField last a (id, ty) × value ty b tree × IsFields value id c fields
+    × IsField last a (id, ty) × value ty b tree × IsFields value id c fields
 
 -- a size, and unless it is 0 the types and so many entries; an empty map has no types
 abbrev pub IsMap : (ℕ → List ℕ → Tree → Type 0) → List ℕ → TreeList → Type 0
 IsMap value bytes entries =
     (IsUnsigned (2 ^ 32) bytes 0 × (entries ≡ Nil))
-        ⊎ ((n : ℕ) × (key : ℕ) × (ty : ℕ) × (a : List ℕ) × (b : List ℕ) × (c : List ℕ) × (bytes ≡ a ++ (b ++ c)) × (n ≢ 0)
-            × IsUnsigned (2 ^ 32) a n × IsEntryTypes b (key, ty) × IsEntries (IsElement value key) (IsElement value ty) n c entries)
+    ⊎ ((n : ℕ) × (key : ℕ) × (ty : ℕ) × (a : List ℕ) × (b : List ℕ) × (c : List ℕ) × (bytes ≡ a ++ (b ++ c)) × (n ≢ 0)
+    × IsUnsigned (2 ^ 32) a n × IsEntryTypes b (key, ty) × IsEntries (IsElement value key) (IsElement value ty) n c entries)
 
 -- a list, a set, a map or a struct
 abbrev pub IsNested : (ℕ → List ℕ → Tree → Type 0) → ℕ → List ℕ → Tree → Type 0

@@ -2,7 +2,8 @@ use thiserror::Error;
 
 /// Why there is no item at a place. `at` is the offset of the item's first byte.
 ///
-/// The item is the innermost one: a header with all that it holds, a number, or a byte string with its length.
+/// The item is the innermost one: a header with all that it holds, a number, or a byte string with
+/// its length.
 #[derive(Clone, Copy, Debug, PartialEq, Eq, Error)]
 pub enum ThriftFault {
     /// The bytes end inside the item.

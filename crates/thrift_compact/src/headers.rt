@@ -1,7 +1,7 @@
 //! The headers of lists, sets, maps and fields, read from the front of a slice.
 //!
-//! Each function takes the offset `at` of the header's first byte, which its faults name, and returns what it read with the
-//! bytes behind it.
+//! Each function takes the offset `at` of the header's first byte, which its faults name, and
+//! returns what it read with the bytes behind it.
 
 ghost use Rattle.std.specs.Prelude.{◌≡◌, ◌<◌, ◌≤◌, length, IfOk};
 ghost use Rattle.thrift_compact.specs.Spelling.{high_bits, low_bits};
@@ -56,7 +56,11 @@ pub fn parse_list_header(at: u64, bytes: &[u8]) -> Result<((u8, u32), &[u8]), Th
 
 /// The id and the type of the field behind the field `last`, or none at a struct's stop.
 #[tactic(auto, unfolding(crate::specs::Reading::field_header_in))]
-pub fn parse_field_header(at: u64, last: i16, bytes: &[u8]) -> Result<(Option<(i16, u8)>, &[u8]), ThriftFault>
+pub fn parse_field_header(
+    at: u64,
+    last: i16,
+    bytes: &[u8],
+) -> Result<(Option<(i16, u8)>, &[u8]), ThriftFault>
     ensures exact { Parses result (field_header_in at last bytes.now) }
     ensures shorter { IfOk result (λ x. length x.1.now < length bytes.now) }
 {
@@ -85,7 +89,11 @@ pub fn parse_field_header(at: u64, last: i16, bytes: &[u8]) -> Result<(Option<(i
 
 /// The types of keys and values, and the `size` of their map.
 #[tactic(auto, unfolding(crate::specs::Reading::entry_types_in))]
-fn parse_entry_types(at: u64, size: u32, bytes: &[u8]) -> Result<((u8, u8, u32), &[u8]), ThriftFault>
+fn parse_entry_types(
+    at: u64,
+    size: u32,
+    bytes: &[u8],
+) -> Result<((u8, u8, u32), &[u8]), ThriftFault>
     ensures exact { Parses result (entry_types_in at size bytes.now) }
     ensures shorter { IfOk result (λ x. length x.1.now ≤ length bytes.now) }
 {
@@ -103,7 +111,8 @@ fn parse_entry_types(at: u64, size: u32, bytes: &[u8]) -> Result<((u8, u8, u32),
     Ok(((key, value, size), rest))
 }
 
-/// The types of a map's keys and values, and its size. An empty map has no types, and they are given as 0.
+/// The types of a map's keys and values, and its size. An empty map has no types, and they are
+/// given as 0.
 #[tactic(auto, unfolding(crate::specs::Reading::map_header_in))]
 pub fn parse_map_header(at: u64, bytes: &[u8]) -> Result<((u8, u8, u32), &[u8]), ThriftFault>
     ensures exact { Parses result (map_header_in at bytes.now) }

@@ -16,26 +16,30 @@ pub fn none_begins_another()
     ensures list_header { NoneBeginsAnother IsListHeader }
     ensures field_header { (last : ℤ) → NoneBeginsAnother (IsFieldHeader last) }
     ensures value { (depth ty : ℕ) → NoneBeginsAnother (IsValue depth ty) }
-{
-}
+{}
 
-/// A spelling says one thing.
+/// A spelling says one thing: bytes that spell a value stand for one tree.
 pub fn says_one()
     ensures signed { (limit : ℕ) → SaysOne (IsSigned limit) }
     ensures byte { SaysOne IsByte }
     ensures binary { SaysOne IsBinary }
     ensures list_header { SaysOne IsListHeader }
     ensures field_header { (last : ℤ) → SaysOne (IsFieldHeader last) }
-{
-}
+    ensures value { (depth ty : ℕ) → SaysOne (IsValue depth ty) }
+{}
 
 /// What is written, whatever follows it, reads back as what was written.
 pub fn reads_back()
-    ensures i32 { (at : ℕ) (z : ℤ) → FitsSigned w32 z → ReadsBack (signed_in at (2 ^ 32)) (signed_spelling z) z }
-    ensures i64 { (at : ℕ) (z : ℤ) → FitsSigned w64 z → ReadsBack (signed_in at (2 ^ 64)) (signed_spelling z) z }
-    ensures binary { (at : ℕ) (text : List ℕ) → length text < 2 ^ 32 → ReadsBack (binary_in at) (binary_spelling text) text }
-    ensures list_header { (at ty size : ℕ) → IsType ty → size < 2 ^ 32 → ReadsBack (list_header_in at) (list_spelling ty size) (ty, size) }
-    ensures field_header { (at : ℕ) (last id : ℤ) (ty : ℕ) → last <ℤ id → IsType ty → FitsSigned w16 id → ReadsBack (field_header_in at last) (field_spelling last id ty) (Some (id, ty)) }
+    ensures i32 { (at : ℕ) (z : ℤ) → FitsSigned w32 z
+        → ReadsBack (signed_in at (2 ^ 32)) (signed_spelling z) z }
+    ensures i64 { (at : ℕ) (z : ℤ) → FitsSigned w64 z
+        → ReadsBack (signed_in at (2 ^ 64)) (signed_spelling z) z }
+    ensures binary { (at : ℕ) (text : List ℕ) → length text < 2 ^ 32
+        → ReadsBack (binary_in at) (binary_spelling text) text }
+    ensures list_header { (at ty size : ℕ) → IsType ty → size < 2 ^ 32
+        → ReadsBack (list_header_in at) (list_spelling ty size) (ty, size) }
+    ensures field_header { (at : ℕ) (last id : ℤ) (ty : ℕ) → last <ℤ id
+        → IsType ty → FitsSigned w16 id
+        → ReadsBack (field_header_in at last) (field_spelling last id ty) (Some (id, ty)) }
     ensures stop { (at : ℕ) (last : ℤ) → ReadsBack (field_header_in at last) (0 ∷ []) None }
-{
-}
+{}

@@ -1,7 +1,9 @@
-//! The compact protocol of Apache Thrift: fields read exactly, and written in their shortest spelling.
+//! The compact protocol of Apache Thrift: fields read exactly, and written in their shortest
+//! spelling.
 //!
-//! `specs/Spelling.antt` and `specs/Trees.antt` define which bytes spell which item, after the Thrift compact protocol
-//! specification. [`Reader`] finds the item at its place or the first fault there, and [`Writer`] appends shortest spellings.
+//! `specs/Spelling.antt` and `specs/Trees.antt` define which bytes spell which item, after the
+//! Thrift compact protocol specification. [`Reader`] finds the item at its place or the first fault
+//! there, and [`Writer`] appends shortest spellings.
 #![tactic(auto)]
 
 mod fault;

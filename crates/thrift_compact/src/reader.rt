@@ -10,14 +10,16 @@ use crate::scalars::{parse_binary, parse_byte, parse_i32, parse_i64, start_of};
 use crate::skipping::skip_value;
 use std::marker::Model;
 
-/// How many structs, lists, sets and maps a skipped value may have inside one another, itself counted.
-pub const MAX_DEPTH: u8 = 16;
+/// How many structs, lists, sets and maps a skipped value may have inside one another, itself
+/// counted.
+const MAX_DEPTH: u8 = 16;
 
 /// Reads items from the front of borrowed bytes, and takes no memory.
 ///
-/// Each call has two clauses. `item` says it by the spellings: what is read is the item at this place and the reader moves
-/// past exactly it, and a fault means that no item stands here. `exact` says it by a function of the bytes, which names the
-/// first fault in byte order too. After a fault the reader stands where it stood.
+/// Each call has two clauses. `item` says it by the spellings: what is read is the item at this
+/// place and the reader moves past exactly it, and a fault means that no item stands here. `exact`
+/// says it by a function of the bytes, which names the first fault in byte order too. After a fault
+/// the reader stands where it stood.
 #[derive(Debug, Drop)]
 pub struct Reader<'a> {
     rest: &'a [u8],
@@ -53,16 +55,17 @@ impl<'a> Reader<'a> {
         start_of(self.end, self.rest)
     }
 
-    /// How many bytes are left. A struct has no more fields than that, which bounds a loop over them.
+    /// How many bytes are left. A struct has no more fields than that, which bounds a loop over
+    /// them.
     pub fn left(&self) -> usize
         ensures { result ≡ length self.now.rest }
     {
         self.rest.len()
     }
 
-    /// Reads a field's header: its id and its type, or none at the struct's stop. `last` is the id of the field before it in
-    /// its struct, and 0 at the first.
-    #[tactic(auto, using(crate::proofs::ReaderLemmas::finds_field_header, crate::proofs::ReaderLemmas::refuses_field_header), unfolding(crate::specs::Cursor::Finds))]
+    /// Reads a field's header: its id and its type, or none at the struct's stop. `last` is the id
+    /// of the field before it in its struct, and 0 at the first.
+    #[tactic(auto, using(crate::proofs::ReaderLemmas::field_header_item), unfolding(crate::specs::Cursor::Finds))]
     pub fn read_header(&mut self, last: i16) -> Result<Option<(i16, u8)>, ThriftFault>
         ensures item { Finds (IsFieldHeader last) self.old self.new result }
         ensures exact { Reads self.old self.new result (field_header_in self.old.at last self.old.rest) }
@@ -73,7 +76,7 @@ impl<'a> Reader<'a> {
     }
 
     /// Reads a signed number of 64 bits, also one that is not in its shortest spelling.
-    #[tactic(auto, using(crate::proofs::ReaderLemmas::finds_signed, crate::proofs::ReaderLemmas::refuses_signed), unfolding(crate::specs::Cursor::Finds))]
+    #[tactic(auto, using(crate::proofs::ReaderLemmas::signed_item), unfolding(crate::specs::Cursor::Finds))]
     pub fn read_i64(&mut self) -> Result<i64, ThriftFault>
         ensures item { Finds (IsSigned (2 ^ 64)) self.old self.new result }
         ensures exact { Reads self.old self.new result (signed_in self.old.at (2 ^ 64) self.old.rest) }
@@ -84,7 +87,7 @@ impl<'a> Reader<'a> {
     }
 
     /// Reads a signed number of 32 bits, also one that is not in its shortest spelling.
-    #[tactic(auto, using(crate::proofs::ReaderLemmas::finds_signed, crate::proofs::ReaderLemmas::refuses_signed), unfolding(crate::specs::Cursor::Finds))]
+    #[tactic(auto, using(crate::proofs::ReaderLemmas::signed_item), unfolding(crate::specs::Cursor::Finds))]
     pub fn read_i32(&mut self) -> Result<i32, ThriftFault>
         ensures item { Finds (IsSigned (2 ^ 32)) self.old self.new result }
         ensures exact { Reads self.old self.new result (signed_in self.old.at (2 ^ 32) self.old.rest) }
@@ -95,7 +98,7 @@ impl<'a> Reader<'a> {
     }
 
     /// Reads a signed byte.
-    #[tactic(auto, using(crate::proofs::ReaderLemmas::finds_byte, crate::proofs::ReaderLemmas::refuses_byte), unfolding(crate::specs::Cursor::Finds))]
+    #[tactic(auto, using(crate::proofs::ReaderLemmas::byte_item), unfolding(crate::specs::Cursor::Finds))]
     pub fn read_byte(&mut self) -> Result<i8, ThriftFault>
         ensures item { Finds IsByte self.old self.new result }
         ensures exact { Reads self.old self.new result (byte_in self.old.at self.old.rest) }
@@ -106,7 +109,7 @@ impl<'a> Reader<'a> {
     }
 
     /// Reads a byte string with its length, as a slice of the bytes that the reader was made with.
-    #[tactic(auto, using(crate::proofs::ReaderLemmas::finds_binary, crate::proofs::ReaderLemmas::refuses_binary), unfolding(crate::specs::Cursor::Finds))]
+    #[tactic(auto, using(crate::proofs::ReaderLemmas::binary_item), unfolding(crate::specs::Cursor::Finds))]
     pub fn read_binary(&mut self) -> Result<&'a [u8], ThriftFault>
         ensures item { Finds (λ bytes text. IsBinary bytes text.now) self.old self.new result }
         ensures exact { ReadsSlice self.old self.new result (binary_in self.old.at self.old.rest) }
@@ -117,7 +120,7 @@ impl<'a> Reader<'a> {
     }
 
     /// Reads the header of a list or a set: the elements' type, and how many they are.
-    #[tactic(auto, using(crate::proofs::ReaderLemmas::finds_list_header, crate::proofs::ReaderLemmas::refuses_list_header), unfolding(crate::specs::Cursor::Finds))]
+    #[tactic(auto, using(crate::proofs::ReaderLemmas::list_header_item), unfolding(crate::specs::Cursor::Finds))]
     pub fn read_list(&mut self) -> Result<(u8, u32), ThriftFault>
         ensures item { Finds IsListHeader self.old self.new result }
         ensures exact { Reads self.old self.new result (list_header_in self.old.at self.old.rest) }
@@ -127,8 +130,8 @@ impl<'a> Reader<'a> {
         Ok(header)
     }
 
-    /// Whether the next byte names this type as that of a list's or a set's elements. A list of another type can then be
-    /// skipped whole, and keeps its place for the depth.
+    /// Whether the next byte names this type as that of a list's or a set's elements. A list of
+    /// another type can then be skipped whole, and keeps its place for the depth.
     pub fn is_list_of(&self, ty: u8) -> bool
         ensures { result ≡ begins_list_of ty self.now.rest }
     {
@@ -138,11 +141,11 @@ impl<'a> Reader<'a> {
         }
     }
 
-    /// Passes over a value of this type, with at most 16 structs, lists, sets and maps inside one another. A boolean field
-    /// takes no bytes, since its type is its value.
+    /// Passes over a value of this type, with at most 16 structs, lists, sets and maps inside one
+    /// another. A boolean field takes no bytes, since its type is its value.
     ///
     /// The time is linear in the bytes passed, whatever sizes they state.
-    #[tactic(auto, using(crate::proofs::ReaderLemmas::finds_value, crate::proofs::ReaderLemmas::refuses_value), unfolding(crate::specs::Cursor::FindsSome))]
+    #[tactic(auto, using(crate::proofs::ReaderLemmas::value_item), unfolding(crate::specs::Cursor::FindsSome))]
     pub fn skip(&mut self, ty: u8) -> Result<(), ThriftFault>
         ensures item { FindsSome (IsValue 16 ty) self.old self.new result }
         ensures exact { Skips self.old self.new result (after_value (end_of self.old) 16 ty self.old.rest) }

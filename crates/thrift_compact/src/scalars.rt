@@ -1,7 +1,7 @@
 //! Numbers and byte strings, read from the front of a slice.
 //!
-//! Each function takes the offset `at` of the item's first byte, which its faults name, and returns what it read with the
-//! bytes behind it.
+//! Each function takes the offset `at` of the item's first byte, which its faults name, and returns
+//! what it read with the bytes behind it.
 
 ghost use Rattle.std.specs.Prelude.{◌≡◌, ◌+◌, ◌^◌, ◌<◌, ◌≤◌, length, IfOk};
 ghost use Rattle.thrift_compact.specs.Spelling.{from_zigzag};
@@ -20,8 +20,9 @@ pub fn start_of(end: usize, bytes: &[u8]) -> u64
     end.saturating_sub(bytes.len()) as u64
 }
 
-/// A number of at most `most` bytes: seven bits, and the number in the bytes behind if the high bit says that more follow.
-#[tactic(auto, using(crate::proofs::NumberBounds::more_groups, crate::proofs::NumberBounds::few_groups), unfolding(crate::specs::Reading::number_in))]
+/// A number of at most `most` bytes: seven bits, and the number in the bytes behind if the high bit
+/// says that more follow.
+#[tactic(auto, using(crate::proofs::NumberBounds::group_bounds), unfolding(crate::specs::Reading::number_in))]
 fn parse_number(at: u64, most: u8, bytes: &[u8]) -> Result<(u128, &[u8]), ThriftFault>
     requires { most ≤ 10 }
     ensures exact { Parses result (number_in at most bytes.now) }
@@ -115,7 +116,11 @@ pub fn parse_byte(at: u64, bytes: &[u8]) -> Result<(i8, &[u8]), ThriftFault>
     let [b, rest @ ..] = bytes else {
         return Err(ThriftFault::Short { at });
     };
-    let value = if *b < 128 { *b as i8 } else { -1 - (255 - *b) as i8 };
+    let value = if *b < 128 {
+        *b as i8
+    } else {
+        -1 - (255 - *b) as i8
+    };
     Ok((value, rest))
 }
 

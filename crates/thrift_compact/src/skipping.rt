@@ -1,8 +1,9 @@
 //! Values passed over, whatever they hold.
 //!
-//! `end` is the offset at which all bytes end, so that each item's own offset is known. The recursion goes at most `depth`
-//! lists, sets, maps and structs deep. A loop over elements or entries takes no more turns than there are bytes, whatever
-//! size its header states: each turn passes a byte at least, as the clauses `shorter` and `progress` say, or ends the loop.
+//! `end` is the offset at which all bytes end, so that each item's own offset is known. The
+//! recursion goes at most `depth` lists, sets, maps and structs deep. A loop over elements or
+//! entries takes no more turns than there are bytes, whatever size its header states: each turn
+//! passes a byte at least, as the clauses `shorter` and `progress` say, or ends the loop.
 
 ghost use Rattle.std.specs.Prelude.{◌≡◌, ◌≢◌, ◌+◌, ◌<◌, ◌≤◌, length, IfOk, pos};
 ghost use Rattle.thrift_compact.specs.declared.types.TheConstants.{TRUE, FALSE};
@@ -26,7 +27,8 @@ fn is_nested(ty: u8) -> bool
     types::LIST <= ty && ty <= types::STRUCT
 }
 
-/// Passes over a value with no other inside it. A boolean field takes no bytes, since its type is its value.
+/// Passes over a value with no other inside it. A boolean field takes no bytes, since its type is
+/// its value.
 #[tactic(auto, unfolding(crate::specs::Reading::after_plain))]
 fn skip_plain(at: u64, ty: u8, bytes: &[u8]) -> Result<&[u8], ThriftFault>
     ensures exact { Leaves result (after_plain at ty bytes.now) }
@@ -79,8 +81,14 @@ fn skip_element(end: usize, depth: u8, ty: u8, bytes: &[u8]) -> Result<&[u8], Th
 }
 
 #[cycle(skip)]
-#[tactic(auto, using(crate::proofs::SkippingLemmas::each_step, crate::proofs::SkippingLemmas::each_done))]
-fn skip_elements(end: usize, depth: u8, ty: u8, count: u32, bytes: &[u8]) -> Result<&[u8], ThriftFault>
+#[tactic(auto, using(crate::proofs::SkippingLemmas::each_turn))]
+fn skip_elements(
+    end: usize,
+    depth: u8,
+    ty: u8,
+    count: u32,
+    bytes: &[u8],
+) -> Result<&[u8], ThriftFault>
     requires { depth ≤ 16 }
     ensures exact { Leaves result (after_each (after_element end (after_value end depth) ty) count bytes.now) }
     ensures shorter { IfOk result (λ x. length x.now ≤ length bytes.now) }
@@ -105,8 +113,15 @@ fn skip_entry(end: usize, depth: u8, key: u8, value: u8, bytes: &[u8]) -> Result
 }
 
 #[cycle(skip)]
-#[tactic(auto, using(crate::proofs::SkippingLemmas::each_step, crate::proofs::SkippingLemmas::each_done))]
-fn skip_entries(end: usize, depth: u8, key: u8, value: u8, count: u32, bytes: &[u8]) -> Result<&[u8], ThriftFault>
+#[tactic(auto, using(crate::proofs::SkippingLemmas::each_turn))]
+fn skip_entries(
+    end: usize,
+    depth: u8,
+    key: u8,
+    value: u8,
+    count: u32,
+    bytes: &[u8],
+) -> Result<&[u8], ThriftFault>
     requires { depth ≤ 16 }
     ensures exact { Leaves result (after_each (after_entry end (after_value end depth) key value) count bytes.now) }
     ensures shorter { IfOk result (λ x. length x.now ≤ length bytes.now) }
@@ -118,9 +133,10 @@ fn skip_entries(end: usize, depth: u8, key: u8, value: u8, count: u32, bytes: &[
     Ok(rest)
 }
 
-/// Passes over a struct's fields and its stop. Each field's header takes a byte, so there are no more fields than bytes.
+/// Passes over a struct's fields and its stop. Each field's header takes a byte, so there are no
+/// more fields than bytes.
 #[cycle(skip)]
-#[tactic(auto, using(crate::proofs::SkippingLemmas::fields_step, crate::proofs::SkippingLemmas::fields_done))]
+#[tactic(auto, using(crate::proofs::SkippingLemmas::fields_turn))]
 fn skip_fields(end: usize, depth: u8, bytes: &[u8]) -> Result<&[u8], ThriftFault>
     requires { depth ≤ 16 }
     ensures exact { Leaves result (after_fields end (after_value end depth) (length bytes.now) (pos 0) bytes.now) }
@@ -136,10 +152,13 @@ fn skip_fields(end: usize, depth: u8, bytes: &[u8]) -> Result<&[u8], ThriftFault
         last = id;
         rest = skip_value(end, depth, ty, after)?;
     }
-    Err(ThriftFault::Short { at: start_of(end, rest) })
+    Err(ThriftFault::Short {
+        at: start_of(end, rest),
+    })
 }
 
-/// Passes over a struct, a map, a list or a set. Inside it at most `depth` more may stand inside one another.
+/// Passes over a struct, a map, a list or a set. Inside it at most `depth` more may stand inside
+/// one another.
 #[cycle(skip)]
 #[tactic(auto, unfolding(crate::specs::Reading::after_nested))]
 fn skip_nested(end: usize, depth: u8, ty: u8, bytes: &[u8]) -> Result<&[u8], ThriftFault>
@@ -163,7 +182,7 @@ fn skip_nested(end: usize, depth: u8, ty: u8, bytes: &[u8]) -> Result<&[u8], Thr
 
 /// Passes over a value with at most `depth` structs, lists, sets and maps inside one another.
 #[cycle(skip)]
-#[tactic(auto, using(crate::proofs::SkippingLemmas::value_nested, crate::proofs::SkippingLemmas::value_plain, crate::proofs::SkippingLemmas::value_deep))]
+#[tactic(auto, using(crate::proofs::SkippingLemmas::value_cases))]
 pub fn skip_value(end: usize, depth: u8, ty: u8, bytes: &[u8]) -> Result<&[u8], ThriftFault>
     requires { depth ≤ 16 }
     ensures exact { Leaves result (after_value end depth ty bytes.now) }
@@ -174,7 +193,9 @@ pub fn skip_value(end: usize, depth: u8, ty: u8, bytes: &[u8]) -> Result<&[u8], 
         return skip_plain(start_of(end, bytes), ty, bytes);
     }
     if depth == 0 {
-        return Err(ThriftFault::TooDeep { at: start_of(end, bytes) });
+        return Err(ThriftFault::TooDeep {
+            at: start_of(end, bytes),
+        });
     }
     skip_nested(end, depth - 1, ty, bytes)
 }

@@ -1,8 +1,11 @@
-//! The types of values, as the compact protocol numbers them ("Struct encoding" and "List and Set").
+//! The types of values, as the compact protocol numbers them ("Struct encoding" and "List and
+//! Set").
 
-/// A boolean field whose value is true. In a list, a set or a map it stands for booleans of either value.
+/// A boolean field whose value is true. In a list, a set or a map it stands for booleans of either
+/// value.
 pub const TRUE: u8 = 1;
-/// A boolean field whose value is false. In a list, a set or a map it stands for booleans of either value.
+/// A boolean field whose value is false. In a list, a set or a map it stands for booleans of either
+/// value.
 pub const FALSE: u8 = 2;
 /// A signed byte.
 pub const BYTE: u8 = 3;

@@ -13,8 +13,9 @@ const MAX_HEADER_BYTES: usize = 1 + MAX_NUMBER_BYTES;
 
 /// Writes items one after the other, each in its shortest spelling.
 ///
-/// Each call has two clauses on `Ok`. `shortest` says that the bytes gain a spelling of the item at their end, and that no
-/// spelling of it is shorter. `exact` names those bytes. Where memory is wanting, nothing is written.
+/// Each call has two clauses on `Ok`. `shortest` says that the bytes gain a spelling of the item at
+/// their end, and that no spelling of it is shorter. `exact` names those bytes. Where memory is
+/// wanting, nothing is written.
 #[derive(Debug, Drop)]
 pub struct Writer {
     bytes: Vec<u8>,
@@ -39,7 +40,7 @@ fn to_zigzag(v: i64) -> u64
 }
 
 /// Appends a number in its shortest spelling, for which there is room.
-#[tactic(auto, using(crate::proofs::WriterLemmas::number_step, crate::proofs::WriterLemmas::number_done))]
+#[tactic(auto, using(crate::proofs::WriterLemmas::number_turn))]
 fn append_number(bytes: &mut Vec<u8>, n: u64)
     requires { vec_len bytes.old + 10 ≤ vec_capacity bytes.old }
     ensures items { bytes.new.items ≡ bytes.old.items ++ unsigned_spelling n }
@@ -99,7 +100,8 @@ impl Writer {
         }
     }
 
-    /// Writes the header of a field: the step from the field `last` before it, or 0 at the first, if that is at most 15, else the id.
+    /// Writes the header of a field: the step from the field `last` before it, or 0 at the first,
+    /// if that is at most 15, else the id.
     #[tactic(auto, using(crate::proofs::WriterLemmas::appends_field))]
     pub fn put_header(&mut self, last: i16, id: i16, ty: u8) -> Result<(), AllocError>
         requires past { last <ℤ id }

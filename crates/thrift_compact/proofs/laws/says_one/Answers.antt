@@ -1,4 +1,4 @@
-use Rattle.thrift_compact.proofs.LawLemmas.{signed_says_one, byte_says_one, binary_says_one, list_header_says_one, field_header_says_one}
+use Rattle.thrift_compact.proofs.LawLemmas.{signed_says_one, byte_says_one, binary_says_one, list_header_says_one, field_header_says_one, value_says_one}
 use Rattle.thrift_compact.proofs.laws.says_one.Goals as goal
 
 pub returns-clause-signed : goal.returns-clause-signed
@@ -15,3 +15,6 @@ returns-clause-list_header c = list_header_says_one
 
 pub returns-clause-field_header : goal.returns-clause-field_header
 returns-clause-field_header c = field_header_says_one
+
+pub returns-clause-value : goal.returns-clause-value
+returns-clause-value c = value_says_one

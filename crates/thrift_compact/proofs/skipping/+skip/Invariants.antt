@@ -27,17 +27,17 @@ decreases-skip_nested l = 5 * l.depth + 5
 abbrev pub invariant-skip_elements-loop-turn : goal.invariant-skip_elements-loop-turn
 invariant-skip_elements-loop-turn l =
     after_each (after_element l.end (after_value l.end l.depth) l.ty) (l.count - l._turn) l.rest
-        ≡ after_each (after_element l.end (after_value l.end l.depth) l.ty) l.count l.bytes
-        × length l.rest + l._turn ≤ length l.bytes
+    ≡ after_each (after_element l.end (after_value l.end l.depth) l.ty) l.count l.bytes
+    × length l.rest + l._turn ≤ length l.bytes
 
 abbrev pub invariant-skip_entries-loop-turn : goal.invariant-skip_entries-loop-turn
 invariant-skip_entries-loop-turn l =
     after_each (after_entry l.end (after_value l.end l.depth) l.key l.value) (l.count - l._turn) l.rest
-        ≡ after_each (after_entry l.end (after_value l.end l.depth) l.key l.value) l.count l.bytes
-        × length l.rest + l._turn ≤ length l.bytes
+    ≡ after_each (after_entry l.end (after_value l.end l.depth) l.key l.value) l.count l.bytes
+    × length l.rest + l._turn ≤ length l.bytes
 
 abbrev pub invariant-skip_fields-loop-turn : goal.invariant-skip_fields-loop-turn
 invariant-skip_fields-loop-turn l =
     after_fields l.end (after_value l.end l.depth) (length l.bytes - l._turn) l.last l.rest
-        ≡ after_fields l.end (after_value l.end l.depth) (length l.bytes) (pos 0) l.bytes
-        × length l.rest + l._turn ≤ length l.bytes
+    ≡ after_fields l.end (after_value l.end l.depth) (length l.bytes) (pos 0) l.bytes
+    × length l.rest + l._turn ≤ length l.bytes
