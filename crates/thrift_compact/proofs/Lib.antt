@@ -9,4 +9,5 @@ pub mod ReaderLemmas
 pub mod WriterLemmas
 pub mod PrefixLemmas
 pub mod TreeLemmas
+pub mod StandingLemmas
 pub mod LawLemmas

@@ -1,3 +1,4 @@
+-- One turn of the loops that pass over elements and fields, and the cases of a value.
 use Rattle.std.proofs.Common.{◌≡◌, ℕ, ℤ, zero, suc, ◌+◌, ◌-◌, ◌<◌, ◌≤◌, List, Ok, Err, Option, Some, None, refl, arith, true, false}
 use Rattle.thrift_compact.specs.declared.fault.ThriftFault.TheVariants.{Short, TooDeep}
 use Rattle.thrift_compact.specs.Reading.{◌>>=◌, Rest, start_of, after_each, after_fields, after_value, field_header_in, after_plain, is_nested, after_nested}

@@ -63,29 +63,36 @@ binary_in at bytes = do
 abbrev pub is_type : ℕ → Bool
 is_type ty = nat_lt 0 ty && nat_lt ty 13
 
+-- the size of a list or a set whose header begins with the byte b, after its element type
+abbrev pub size_in : ℕ → ℕ → List ℕ → Read (ℕ × ℕ)
+size_in at b rest =
+    if high_bits b == 15 then (unsigned_in at (2 ^ 32) rest >>= λ x. Ok ((low_bits b, x.0), x.1)) else
+    Ok ((low_bits b, high_bits b), rest)
+
 -- a list's or a set's element type and size
 unfoldable pub list_header_in : ℕ → List ℕ → Read (ℕ × ℕ)
 list_header_in at [] = Err (Short at)
-list_header_in at (b ∷ rest) =
-    if is_type (low_bits b)
-    then (if high_bits b == 15 then (unsigned_in at (2 ^ 32) rest >>= λ x. Ok ((low_bits b, x.0), x.1)) else Ok ((low_bits b, high_bits b), rest))
-    else Err (BadType at (low_bits b))
+list_header_in at (b ∷ rest) = if is_type (low_bits b) then size_in at b rest else Err (BadType at (low_bits b))
 
 -- do these bytes begin with a byte that has this type in the low four bits
 abbrev pub begins_list_of : ℕ → List ℕ → Bool
 begins_list_of ty [] = false
 begins_list_of ty (b ∷ rest) = low_bits b == ty
 
+-- the id of the field behind the field `last` whose header begins with the byte b, with its type
+abbrev pub id_in : ℕ → ℤ → ℕ → List ℕ → Read (Option (ℤ × ℕ))
+id_in at last b rest =
+    if high_bits b == 0 then (signed_in at (2 ^ 16) rest >>= λ x. Ok (Some (x.0, low_bits b), x.1)) else
+    if int_lt (last +ℤ pos (high_bits b)) (pos 32768) then Ok (Some (last +ℤ pos (high_bits b), low_bits b), rest) else
+    Err (TooWide at)
+
 -- the id and the type of the field behind the field `last`, or none at the stop
 unfoldable pub field_header_in : ℕ → ℤ → List ℕ → Read (Option (ℤ × ℕ))
 field_header_in at last [] = Err (Short at)
 field_header_in at last (b ∷ rest) =
     if b == 0 then Ok (None, rest) else
-    if is_type (low_bits b)
-    then (if high_bits b == 0
-    then (signed_in at (2 ^ 16) rest >>= λ x. Ok (Some (x.0, low_bits b), x.1))
-    else (if int_lt (last +ℤ pos (high_bits b)) (pos 32768) then Ok (Some (last +ℤ pos (high_bits b), low_bits b), rest) else Err (TooWide at)))
-    else Err (BadType at (low_bits b))
+    if is_type (low_bits b) then id_in at last b rest else
+    Err (BadType at (low_bits b))
 
 -- the types of the keys and of the values, before so many entries
 unfoldable pub entry_types_in : ℕ → ℕ → List ℕ → Read (ℕ × ℕ × ℕ)

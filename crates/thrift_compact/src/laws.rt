@@ -4,9 +4,9 @@ ghost use Rattle.std.specs.Prelude.{◌^◌, ◌<◌, ◌<ℤ◌, ◌∷◌, [],
 ghost use Rattle.std.specs.Int.{w16, w32, w64};
 ghost use Rattle.thrift_compact.specs.Spelling.{IsSigned, IsByte, IsBinary, IsListHeader, IsFieldHeader, IsType};
 ghost use Rattle.thrift_compact.specs.Trees.{IsValue};
-ghost use Rattle.thrift_compact.specs.Reading.{signed_in, binary_in, list_header_in, field_header_in};
+ghost use Rattle.thrift_compact.specs.Reading.{signed_in, byte_in, binary_in, list_header_in, field_header_in};
 ghost use Rattle.thrift_compact.specs.Shortest.{signed_spelling, binary_spelling, field_spelling, list_spelling};
-ghost use Rattle.thrift_compact.specs.Laws.{NoneBeginsAnother, SaysOne, ReadsBack};
+ghost use Rattle.thrift_compact.specs.Laws.{NoneBeginsAnother, SaysOne, FaultsStand, ValueFaultsStand, ReadsBack};
 
 /// No spelling of an item begins another one of the same type.
 pub fn none_begins_another()
@@ -26,6 +26,17 @@ pub fn says_one()
     ensures list_header { SaysOne IsListHeader }
     ensures field_header { (last : ℤ) → SaysOne (IsFieldHeader last) }
     ensures value { (depth ty : ℕ) → SaysOne (IsValue depth ty) }
+{}
+
+/// A fault other than `Short` stands, whatever bytes follow: the bytes up to it decide, so that the
+/// first fault in byte order is the one that is named.
+pub fn faults_stand()
+    ensures signed { (at limit : ℕ) → FaultsStand (signed_in at limit) }
+    ensures byte { (at : ℕ) → FaultsStand (byte_in at) }
+    ensures binary { (at : ℕ) → FaultsStand (binary_in at) }
+    ensures list_header { (at : ℕ) → FaultsStand (list_header_in at) }
+    ensures field_header { (at : ℕ) (last : ℤ) → FaultsStand (field_header_in at last) }
+    ensures value { (depth ty : ℕ) → ValueFaultsStand depth ty }
 {}
 
 /// What is written, whatever follows it, reads back as what was written.

@@ -16,7 +16,7 @@ pub mod types;
 mod writer;
 
 pub use fault::ThriftFault;
-pub use laws::{none_begins_another, reads_back, says_one};
+pub use laws::{faults_stand, none_begins_another, reads_back, says_one};
 pub use reader::Reader;
 pub use writer::Writer;
 

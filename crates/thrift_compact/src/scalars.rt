@@ -11,7 +11,7 @@ ghost use Rattle.thrift_compact.specs.Parsing.{Parses, ParsesSlice};
 use crate::fault::ThriftFault;
 
 /// The most bytes that a number takes.
-const MAX_NUMBER_BYTES: u8 = 10;
+pub const MAX_NUMBER_BYTES: usize = 10;
 
 /// The offset of the first of `bytes`, which reach up to the offset `end`.
 pub fn start_of(end: usize, bytes: &[u8]) -> u64
@@ -23,7 +23,7 @@ pub fn start_of(end: usize, bytes: &[u8]) -> u64
 /// A number of at most `most` bytes: seven bits, and the number in the bytes behind if the high bit
 /// says that more follow.
 #[tactic(auto, using(crate::proofs::NumberBounds::group_bounds), unfolding(crate::specs::Reading::number_in))]
-fn parse_number(at: u64, most: u8, bytes: &[u8]) -> Result<(u128, &[u8]), ThriftFault>
+fn parse_number(at: u64, most: usize, bytes: &[u8]) -> Result<(u128, &[u8]), ThriftFault>
     requires { most ≤ 10 }
     ensures exact { Parses result (number_in at most bytes.now) }
     ensures shorter { IfOk result (λ x. length x.1.now < length bytes.now) }

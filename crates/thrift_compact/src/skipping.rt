@@ -37,30 +37,12 @@ fn skip_plain(at: u64, ty: u8, bytes: &[u8]) -> Result<&[u8], ThriftFault>
 {
     match ty {
         types::TRUE | types::FALSE => Ok(bytes),
-        types::BYTE => {
-            let (_, rest) = parse_bytes(at, 1, bytes)?;
-            Ok(rest)
-        }
-        types::I16 => {
-            let (_, rest) = parse_i16(at, bytes)?;
-            Ok(rest)
-        }
-        types::I32 => {
-            let (_, rest) = parse_i32(at, bytes)?;
-            Ok(rest)
-        }
-        types::I64 => {
-            let (_, rest) = parse_i64(at, bytes)?;
-            Ok(rest)
-        }
-        types::DOUBLE => {
-            let (_, rest) = parse_bytes(at, 8, bytes)?;
-            Ok(rest)
-        }
-        types::BINARY => {
-            let (_, rest) = parse_binary(at, bytes)?;
-            Ok(rest)
-        }
+        types::BYTE => Ok(parse_bytes(at, 1, bytes)?.1),
+        types::I16 => Ok(parse_i16(at, bytes)?.1),
+        types::I32 => Ok(parse_i32(at, bytes)?.1),
+        types::I64 => Ok(parse_i64(at, bytes)?.1),
+        types::DOUBLE => Ok(parse_bytes(at, 8, bytes)?.1),
+        types::BINARY => Ok(parse_binary(at, bytes)?.1),
         _ => Err(ThriftFault::BadType { at, ty }),
     }
 }

@@ -2,11 +2,9 @@ ghost use Rattle.std.specs.Prelude.{◌≡◌, ℤ, ◌+◌, ◌^◌, ◌<◌, �
 ghost use Rattle.thrift_compact.specs.Spelling.{IsSigned, IsBinary, IsListHeader, IsFieldHeader};
 ghost use Rattle.thrift_compact.specs.Shortest.{unsigned_spelling, to_zigzag, signed_spelling, binary_spelling, field_spelling, list_spelling, Appends};
 
+use crate::scalars::MAX_NUMBER_BYTES;
 use std::alloc::{AllocError, Global};
 use std::marker::Model;
-
-/// The most bytes that a number of 64 bits takes.
-const MAX_NUMBER_BYTES: usize = 10;
 
 /// The most bytes that a header takes.
 const MAX_HEADER_BYTES: usize = 1 + MAX_NUMBER_BYTES;
