@@ -1,5 +1,5 @@
 use super::ThriftFault::{BadType, Short, TooDeep, TooWide};
-use super::types::{BINARY, BYTE, DOUBLE, I16, I32, I64, LIST, MAP, STRUCT};
+use super::types::{BINARY, BYTE, DOUBLE, FALSE, I16, I32, I64, LIST, MAP, SET, STRUCT, TRUE};
 use super::*;
 use std::test::*;
 
@@ -15,8 +15,14 @@ const PAGE_FIELDS: [(i16, i32); 3] = [(1, 0), (2, 16), (3, 16)];
 /// The numbers of that struct, each with its id.
 const DATA_PAGE_FIELDS: [(i16, i32); 4] = [(1, 2), (2, 0), (3, 3), (4, 3)];
 
+/// The types in the order of their numbers, which begin at 1.
+const TYPES: [u8; 12] = [
+    TRUE, FALSE, BYTE, I16, I32, I64, DOUBLE, BINARY, LIST, SET, MAP, STRUCT,
+];
+
 #[test]
 fn page_header(rt: HostRuntime) -> Result<(), Fail> {
+    assert_eq!(rt; TYPES, [1, 2, 3, 4, 5, 6, 7, 8, 9, 10, 11, 12]);
     let mut reader = Reader::new(&PAGE_HEADER);
     let mut writer = Writer::new(rt.alloc());
     let mut last = 0;
@@ -99,7 +105,11 @@ fn skips(rt: HostRuntime) -> Result<(), Fail> {
             I64,
             Ok(10),
         ),
-        (&[128; 11], I64, Err(TooWide { at: 0 })),
+        (
+            &[128, 128, 128, 128, 128, 128, 128, 128, 128, 128, 0],
+            I64,
+            Err(TooWide { at: 0 }),
+        ),
         (&[128, 128, 4], I16, Err(TooWide { at: 0 })),
         (
             &[0x05, 254, 255, 3, 0x00, 0x15],
