@@ -1,0 +1,13 @@
+pub mod NumberBounds
+pub mod SkippingLemmas
+pub mod Matching
+pub mod ScalarLemmas
+pub mod HeaderLemmas
+pub mod ValueLemmas
+pub mod FaultLemmas
+pub mod ReaderLemmas
+pub mod WriterLemmas
+pub mod PrefixLemmas
+pub mod TreeLemmas
+pub mod StandingLemmas
+pub mod LawLemmas
