@@ -1,0 +1,51 @@
+#!/usr/bin/env python3
+"""Runs what README.md and docs/GUIDE.md show through the program, and compares the replies.
+
+In GUIDE.md each table with the head `| script | reply |` is a script and its replies, line by line; in README.md the
+block behind "The first one prints" is the output for examples/first_path.script.
+"""
+import os
+import re
+import subprocess
+import sys
+
+TOP = os.path.dirname(os.path.dirname(os.path.abspath(__file__)))
+
+
+def text_of(name):
+    with open(os.path.join(TOP, name), encoding="utf-8") as file:
+        return file.read()
+
+
+def written(script):
+    done = subprocess.run([os.path.join(TOP, "lake")], input=script.encode(), capture_output=True)
+    if done.returncode != 0:
+        sys.exit(f"lake ended with status {done.returncode}: {done.stderr.decode()}")
+    return done.stdout.decode()
+
+
+def guide_examples():
+    """Each table's script and replies."""
+    for table in re.findall(r"^\| script \| reply \|\n\|---\|---\|\n((?:\|.*\n)+)", text_of("docs/GUIDE.md"), re.M):
+        rows = [[cell.strip().strip("`") for cell in line.strip("|\n ").split(" | ")] for line in table.splitlines()]
+        script = "".join(row[0] + "\n" for row in rows if len(row) > 1 and row[0])
+        yield script, "".join(row[-1] + "\n" for row in rows)
+
+
+def readme_example():
+    shown = re.search(r"The first one prints\n\n((?:    .*\n)+)", text_of("README.md")).group(1)
+    return text_of("examples/first_path.script"), re.sub(r"^    ", "", shown, flags=re.M)
+
+
+def main():
+    examples = [*guide_examples(), readme_example()]
+    if len(examples) < 6:
+        sys.exit(f"only {len(examples)} examples were found in README.md and docs/GUIDE.md")
+    for script, replies in examples:
+        found = written(script)
+        if found != replies:
+            sys.exit(f"the script\n{script}is answered\n{found}and the document says\n{replies}")
+    print(f"{len(examples)} examples of README.md and docs/GUIDE.md are answered as they say")
+
+
+main()
