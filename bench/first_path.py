@@ -10,11 +10,11 @@ Usage: bench/first_path.py [--rounds N]
 Each figure is the least of N rounds (9), as the clock has it, and as the processor has it (user and system), which
 other work on the machine disturbs less.
 """
+import argparse
 import os
 import resource
 import shutil
 import subprocess
-import sys
 import tempfile
 import time
 
@@ -43,16 +43,19 @@ def seconds(words, script, rounds):
 
 
 def skipped_lines(folder, rounds):
+    times = []
     for mib in (15, 30, 60):
         script = os.path.join(folder, f"skipped_{mib}")
         with open(script, "wb") as file:
             file.write(LINE * (mib * MIB // len(LINE)))
         lake = seconds([LAKE], script, rounds)
         lines = seconds(["wc", "-l"], script, rounds)
+        times.append(lake[1])
         print(
             f"skipped lines, {mib} MiB: lake {lake[0]:.3f} s, wc -l {lines[0]:.3f} s, "
             f"ratio {lake[0] / lines[0]:.1f}, by the processor {lake[1] / lines[1]:.1f}"
         )
+    print(f"60 MiB take {times[-1] / times[0]:.1f} times as long as 15 MiB, by the processor; 4 is in step with the bytes")
 
 
 def statements(folder, rounds):
@@ -74,12 +77,14 @@ def statements(folder, rounds):
 
 
 def main():
-    rounds = int(sys.argv[sys.argv.index("--rounds") + 1]) if "--rounds" in sys.argv else 9
-    if not os.path.exists(LAKE):
-        sys.exit("build the program first: ./lake < /dev/null")
+    words = argparse.ArgumentParser(description="Times lake against wc -l and sqlite3.")
+    words.add_argument("--rounds", type=int, default=9)
+    rounds = words.parse_args().rounds
+    subprocess.run([os.path.join(TOP, "lake")], stdin=subprocess.DEVNULL, check=True)
     with tempfile.TemporaryDirectory() as folder:
         skipped_lines(folder, rounds)
         statements(folder, rounds)
 
 
-main()
+if __name__ == "__main__":
+    main()

@@ -10,19 +10,19 @@ use std::io::{self, ErrorKind};
 use std::process::ExitCode;
 use streams::{StdSink, StdSource};
 
-/// The words of the command line.
+/// The words of the command line; none where one of them is no text, which is refused like too many.
 fn words(rt: &HostRuntime, alloc: Global) -> io::Result<Vec<String>> {
-    Ok(env::args(rt)?.collect(alloc)?)
+    match env::args(rt) {
+        Ok(words) => Ok(words.collect(alloc)?),
+        Err(error) if error.kind() == ErrorKind::InvalidData => Ok(Vec::new(alloc)),
+        Err(error) => Err(error),
+    }
 }
 
-/// The status of words that could not be read: want of memory, or a word that is no text.
-fn unread(rt: &HostRuntime, kind: ErrorKind) -> Status {
-    let status = match kind {
-        ErrorKind::OutOfMemory => Status::Memory,
-        _ => Status::Usage,
-    };
-    match rt.stdout().write_all(status.last_line()) {
-        Ok(()) => status,
+/// Ends the program before a script is read, since there is no memory for the words.
+fn without_words(rt: &HostRuntime) -> Status {
+    match rt.stdout().write_all(Status::Memory.last_line()) {
+        Ok(()) => Status::Memory,
         Err(_) => Status::WriteFault,
     }
 }
@@ -35,7 +35,7 @@ fn main(rt: HostRuntime) -> ExitCode {
             let mut output = StdSink::new(rt.stdout());
             run(alloc, words.as_slice(), &mut input, &mut output)
         }
-        Err(error) => unread(&rt, error.kind()),
+        Err(_) => without_words(&rt),
     };
     ExitCode::from(status as u8)
 }

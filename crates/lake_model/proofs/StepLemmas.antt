@@ -1,6 +1,6 @@
 -- No step of the plain lake answers `no memory`.
 use Rattle.std.proofs.Common.{◌≡◌, ℕ, List, [], ◌∷◌, refl, Bool, true, false, cond}
-use Rattle.std.specs.Prelude.{Option, Some, None, is_none, ◌&&◌, ◌+◌, length}
+use Rattle.std.specs.Prelude.{Option, Some, None, is_none, ◌&&◌, ◌==◌, ◌+◌, length}
 use Rattle.lake_types.specs.declared.stmt.Cell.{Cell}
 use Rattle.lake_types.specs.declared.stmt.ColumnDef.{ColumnDef}
 use Rattle.lake_types.specs.declared.stmt.Stmt.{Stmt}
@@ -100,4 +100,4 @@ step_of-spares lake session x = refl
 
 pub step-spares_memory : (lake : Lake) (session : ℕ) (read : Option Stmt) → is_memory (s.step lake session read).reply.last ≡ false
 step-spares_memory lake session None = refl
-step-spares_memory lake session (Some x) = step_of-spares lake session x
+step-spares_memory lake session (Some x) = either Spares (session == 0) (s.refused lake NotBuilt) (s.step_of lake session x) refl (step_of-spares lake session x)

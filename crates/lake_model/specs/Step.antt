@@ -199,7 +199,8 @@ abbrev pub insert : Lake → ℕ → Option Txn → TableName → List (List Cel
 insert lake session None table rows = refused lake NoTransaction
 insert lake session (Some txn) table rows = followed lake session (Some txn) (insertion_plan (seen lake txn) txn.own table rows)
 
--- SELECT * shows the rows of the transaction's view, rising by row id
+-- SELECT * shows the rows of the transaction's view in the order of the table's list, which rises by row id: fresh rows
+-- stand at its end and get the next ids
 
 abbrev pub shown_rows : Table → List (List ℕ)
 shown_rows table = map (λ row. row_text table.columns row.cells) table.rows
@@ -233,7 +234,7 @@ step_of lake session (stmt.Insert table rows) = insert lake session (open_txn la
 step_of lake session (stmt.Select table [] None) = select_all lake (open_txn lake session) table
 step_of lake session s = refused lake NotBuilt
 
--- a line whose form is not built has no statement
+-- a line whose form is not built has no statement, and session 0, of lines of no session, has none
 abbrev pub step : Lake → ℕ → Option Stmt → Step
-step lake session (Some s) = step_of lake session s
 step lake session None = refused lake NotBuilt
+step lake session (Some s) = if session == 0 then refused lake NotBuilt else step_of lake session s

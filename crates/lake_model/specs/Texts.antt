@@ -30,7 +30,7 @@ answer_text (NoTable table) = codes "no table " ++ table_text table
 answer_text NotBuilt = codes "not built"
 answer_text Memory = codes "no memory"
 
--- a cell of a BIGINT column, the one type that a table can have so far
+-- a cell of a BIGINT column, the one type that a table can have so far; the texts of other values come with their types
 abbrev pub cell_text : Value → List ℕ
 cell_text value.Null = codes "NULL"
 cell_text (value.Int n) = signed_decimal n

@@ -1,6 +1,6 @@
 -- What a run has read and written.
 use Rattle.std.proofs.Common.{◌≡◌, ◌≢◌, ℕ, ◌+◌, ◌<◌, ◌≤◌, List, [], ◌∷◌, ◌++◌, length, take, drop, refl, ap, arith, sym, ◌∙◌, append_assoc, append-nil, length-append, subst, Bool, ◌⊎◌, inl, inr}
-use Rattle.std.specs.Prelude.{Option}
+use Rattle.std.specs.Prelude.{Option, Some, None}
 use Rattle.std.proofs.Math.Seq.{take-append_seam, take-nil}
 use Rattle.std.proofs.lemmas.List.{take-append-drop}
 use Rattle.lake_io.specs.Told.{Takes, Gives, IsAtEnd}
@@ -11,8 +11,8 @@ use Rattle.lake_model.specs.Replay.{Line, IsReplay, lost_in, replay_text}
 use Rattle.lake_model.proofs.ReplayLemmas.{replay-lost_in}
 use Rattle.lake_top.proofs.DeskLemmas.{answers-none, answers-then, breaks-then, ends-then, text-none}
 use Rattle.lake_top.specs.Desk.{Answers, Breaks, Desk, Ends, Moves, Stops, StopsOff, new_desk, text_from}
-use Rattle.lake_top.specs.Run.{Answered, FinishHalts, Halts, IsCutShort, Outcome, TurnHalts, last_line, status_of}
-use Rattle.lake_top.specs.Script.{first_lines, lines_of, lines_within_most, most_bytes, script_lines}
+use Rattle.lake_top.specs.Run.{Answered, AnsweredFront, FinishHalts, Halts, IsCutShort, IsFront, Outcome, TurnHalts, UsageOutcome, last_line, status_of}
+use Rattle.lake_top.specs.Script.{lines_of, lines_within_most, most_bytes, script_lines}
 use Rattle.lake_top.specs.declared.desk.Stop.{Stop}
 use Rattle.lake_top.specs.declared.desk.Stop.TheVariants as stop
 use Rattle.lake_top.specs.declared.halt.Halt.{Halt}
@@ -84,32 +84,29 @@ answered-long d n l m o s t more p e h =
       replay = is-replay (lines_within_most (p.bytes ++ more)) p.answered.lost p.answered.out (ap (λ x. replay_text new_lake (lines_of x) p.answered.lost) within ∙ written-text d p.bytes s t p.answered);
     }
 
--- want of memory
-first-front : (front back bytes : List ℕ) → front ++ back ≡ bytes ++ 10 ∷ [] → take (length front) (bytes ++ 10 ∷ []) ≡ front
-first-front front back bytes e = ap (take (length front)) (sym e) ∙ take-append_seam front back
+-- want of memory, and a sink that fails
+front-within : (front back bytes more : List ℕ) → front ++ back ≡ bytes → front ++ (back ++ more) ≡ bytes ++ more
+front-within front back bytes more e = sym (append_assoc front back more) ∙ ap (λ x. x ++ more) e
 
-ended-part : (bytes whole z : List ℕ) (l m s t : Option (List ℕ)) → Gives l m bytes → whole ++ z ≡ bytes ++ 10 ∷ [] → Ends new_desk whole s t → (n : ℕ) × Answered l m s t (first_lines n) []
-ended-part bytes whole z l m s t h e p =
-    let is : p.front ++ (p.back ++ z) ≡ bytes ++ 10 ∷ [] = sym (append_assoc p.front p.back z) ∙ ap (λ x. x ++ z) p.is ∙ e in (
-      length p.front,
-      record {
-        bytes = bytes;
-        given = h;
-        out = p.out;
-        written = takes-last s t p.out p.written;
-        replay = is-replay (first_lines (length p.front) bytes) p.lost p.out (ap (λ x. replay_text new_lake (lines_of x) p.lost) (first-front p.front (p.back ++ z) bytes is) ∙ p.text);
-      },
-    )
-
-broken-part : (bytes whole z : List ℕ) (l m s t : Option (List ℕ)) → Gives l m bytes → whole ++ z ≡ bytes ++ 10 ∷ [] → Breaks new_desk whole s t → IsCutShort l m s t
-broken-part bytes whole z l m s t h e p = record {
+ended-part : (bytes whole : List ℕ) (l m s t : Option (List ℕ)) → Gives l m bytes → (p : Ends new_desk whole s t) → IsFront p.front bytes m → AnsweredFront l m s t []
+ended-part bytes whole l m s t h p f = record {
   bytes = bytes;
   given = h;
   front = p.front;
-  back = p.back ++ z;
-  is = sym (append_assoc p.front p.back z) ∙ ap (λ x. x ++ z) p.is ∙ e;
+  is_front = f;
+  out = p.out;
+  written = takes-last s t p.out p.written;
+  replay = is-replay (lines_of p.front) p.lost p.out p.text;
+}
+
+broken-part : (bytes whole : List ℕ) (l m s t : Option (List ℕ)) → Gives l m bytes → (p : Breaks new_desk whole s t) → IsFront p.front bytes m → IsCutShort l m s t
+broken-part bytes whole l m s t h p f = record {
+  bytes = bytes;
+  given = h;
+  front = p.front;
+  is_front = f;
   lost = p.lost;
-  status = Good;
+  halt = None;
   out = p.out;
   written = p.written;
   missing = p.missing;
@@ -122,19 +119,23 @@ turn-halts halt.Read d n l m o s t u p q =
     let all : Moves new_desk d (n + 0) l o s u = moves-then new_desk d d n 0 l m o s t u p q in
     answered-by d all.bytes l o s u all.given all.answered
 turn-halts halt.Write d n l m o s t u p q =
-    broken-part (p.bytes ++ q.bytes) (p.bytes ++ q.bytes) (10 ∷ []) l o s u (Gives-then l m o p.bytes q.bytes p.given q.given) refl (breaks-then new_desk d p.bytes q.bytes s t u p.answered q.stopped)
+    let all : Breaks new_desk (p.bytes ++ q.bytes) s u = breaks-then new_desk d p.bytes q.bytes s t u p.answered q.stopped in
+    broken-part (p.bytes ++ q.bytes) (p.bytes ++ q.bytes) l o s u (Gives-then l m o p.bytes q.bytes p.given q.given) all (inl (all.back, all.is))
 turn-halts halt.Memory d n l m o s t u p q =
-    ended-part (p.bytes ++ q.bytes) (p.bytes ++ q.bytes) (10 ∷ []) l o s u (Gives-then l m o p.bytes q.bytes p.given q.given) refl (ends-then new_desk d p.bytes q.bytes s t u p.answered q.stopped)
+    let all : Ends new_desk (p.bytes ++ q.bytes) s u = ends-then new_desk d p.bytes q.bytes s t u p.answered q.stopped in
+    ended-part (p.bytes ++ q.bytes) (p.bytes ++ q.bytes) l o s u (Gives-then l m o p.bytes q.bytes p.given q.given) all (inl (all.back, all.is))
 turn-halts halt.TooLong d n l m o s t u p q = absurd q
 
 -- the end at which the run halts
-pub finish-halts : (x : Halt) (d : Desk) (n : ℕ) (l m s t u : Option (List ℕ)) → Moves new_desk d n l m s t → FinishHalts x d t u → Halts x l m s u
-finish-halts halt.Read d n l m s t u p q = absurd q
-finish-halts halt.Write d n l m s t u p q =
-    broken-part p.bytes (p.bytes ++ 10 ∷ []) [] l m s u p.given (append-nil (p.bytes ++ 10 ∷ [])) (breaks-then new_desk d p.bytes (10 ∷ []) s t u p.answered q)
-finish-halts halt.Memory d n l m s t u p q =
-    ended-part p.bytes (p.bytes ++ 10 ∷ []) [] l m s u p.given (append-nil (p.bytes ++ 10 ∷ [])) (ends-then new_desk d p.bytes (10 ∷ []) s t u p.answered q)
-finish-halts halt.TooLong d n l m s t u p q = absurd q
+pub finish-halts : (x : Halt) (d : Desk) (n : ℕ) (l m s t u : Option (List ℕ)) → IsAtEnd m → Moves new_desk d n l m s t → FinishHalts x d t u → Halts x l m s u
+finish-halts halt.Read d n l m s t u a p q = absurd q
+finish-halts halt.Write d n l m s t u a p q =
+    let all : Breaks new_desk (p.bytes ++ 10 ∷ []) s u = breaks-then new_desk d p.bytes (10 ∷ []) s t u p.answered q in
+    broken-part p.bytes (p.bytes ++ 10 ∷ []) l m s u p.given all (inr (a, (all.back, all.is)))
+finish-halts halt.Memory d n l m s t u a p q =
+    let all : Ends new_desk (p.bytes ++ 10 ∷ []) s u = ends-then new_desk d p.bytes (10 ∷ []) s t u p.answered q in
+    ended-part p.bytes (p.bytes ++ 10 ∷ []) l m s u p.given all (inr (a, (all.back, all.is)))
+finish-halts halt.TooLong d n l m s t u a p q = absurd q
 
 -- the end of the input past the most of a script
 pub moves-end : (d : Desk) (n : ℕ) (l m o s t : Option (List ℕ)) → Moves new_desk d n l m s t → Gives m o [] → Moves new_desk d n l o s t
@@ -144,7 +145,15 @@ moves-end d n l m o s t p h =
 
 -- nothing is read and nothing is written
 pub halts-none : (l s : Option (List ℕ)) → Halts halt.Memory l l s s
-halts-none l s = (0, record { bytes = []; given = Gives-nothing l; out = []; written = Takes-nothing s; replay = refl })
+halts-none l s = record {
+  bytes = [];
+  given = Gives-nothing l;
+  front = [];
+  is_front = inl ([], refl);
+  out = [];
+  written = Takes-nothing s;
+  replay = refl;
+}
 
 -- the last line is written
 answered-last : (l m s t u : Option (List ℕ)) (lines : List ℕ → List Line) (last : List ℕ) → Answered l m s t lines [] → Takes t u last → Answered l m s u lines last
@@ -156,19 +165,18 @@ answered-last l m s t u lines last p h = record {
   replay = p.replay;
 }
 
-cut-last : (l m s t u : Option (List ℕ)) (lines : List ℕ → List Line) (status : Status) (n : ℕ) (p : Answered l m s t lines []) (front back : List ℕ) → front ++ back ≡ p.bytes ++ 10 ∷ [] → lines p.bytes ≡ lines_of front → Takes t u (take n (last_line status)) → IsCutShort l m s u
-cut-last l m s t u lines status n p front back is e h = record {
-  bytes = p.bytes;
-  given = p.given;
+cut-last : (l m s t u : Option (List ℕ)) (x : Halt) (n : ℕ) (bytes front out : List ℕ) → Gives l m bytes → IsFront front bytes m → Takes s t (out ++ []) → IsReplay new_lake (lines_of front) out → Takes t u (take n (last_line (status_of x))) → IsCutShort l m s u
+cut-last l m s t u x n bytes front out h f w r last = record {
+  bytes = bytes;
+  given = h;
   front = front;
-  back = back;
-  is = is;
-  lost = lost_in p.out;
-  status = status;
-  out = p.out ++ take n (last_line status);
-  written = Takes-then s t u p.out (take n (last_line status)) (takes-plain s t p.out p.written) h;
-  missing = drop n (last_line status);
-  replay = append_assoc p.out (take n (last_line status)) (drop n (last_line status)) ∙ ap (λ x. p.out ++ x) (take-append-drop n (last_line status)) ∙ ap (λ x. x ++ last_line status) (p.replay ∙ ap (λ x. replay_text new_lake x (lost_in p.out)) e);
+  is_front = f;
+  lost = lost_in out;
+  halt = Some x;
+  out = out ++ take n (last_line (status_of x));
+  written = Takes-then s t u out (take n (last_line (status_of x))) (takes-plain s t out w) last;
+  missing = drop n (last_line (status_of x));
+  replay = append_assoc out (take n (last_line (status_of x))) (drop n (last_line (status_of x))) ∙ ap (λ y. out ++ y) (take-append-drop n (last_line (status_of x))) ∙ ap (λ y. y ++ last_line (status_of x)) r;
 }
 
 pub outcome-told : (x : Halt) (l m s t u : Option (List ℕ)) → Halts x l m s t → Takes t u (last_line (status_of x)) → Outcome (status_of x) l m s u
@@ -179,44 +187,34 @@ outcome-told halt.Write l m s t u p h =
       bytes = p.bytes;
       given = p.given;
       front = p.front;
-      back = p.back;
-      is = p.is;
+      is_front = p.is_front;
       lost = p.lost;
-      status = p.status;
+      halt = p.halt;
       out = p.out;
       written = subst P (append-nil p.out) (Takes-then s t u p.out [] p.written h);
       missing = p.missing;
       replay = p.replay;
     }
-outcome-told halt.Memory l m s t u p h = (p.0, answered-last l m s t u (first_lines p.0) _ p.1 h)
+outcome-told halt.Memory l m s t u p h = record {
+  bytes = p.bytes;
+  given = p.given;
+  front = p.front;
+  is_front = p.is_front;
+  out = p.out;
+  written = Takes-then s t u p.out _ (takes-plain s t p.out p.written) h;
+  replay = p.replay;
+}
 outcome-told halt.TooLong l m s t u p h = answered-last l m s t u lines_within_most _ p h
 
 takes-nothing : (n : ℕ) (t u : Option (List ℕ)) → Takes t u (take n []) → Takes t u []
 takes-nothing n t u h = let P : List ℕ → Type 0 = λ x. Takes t u x in subst P (take-nil n) h
 
 pub outcome-cut : (x : Halt) (n : ℕ) (l m s t u : Option (List ℕ)) → Halts x l m s t → Takes t u (take n (last_line (status_of x))) → IsCutShort l m s u
-outcome-cut halt.Read n l m s t u p h = cut-last l m s t u lines_of (status_of halt.Read) n p p.bytes (10 ∷ []) refl refl h
+outcome-cut halt.Read n l m s t u p h = cut-last l m s t u halt.Read n p.bytes p.bytes p.out p.given (inl ([], append-nil p.bytes)) p.written p.replay h
 outcome-cut halt.Write n l m s t u p h = outcome-told halt.Write l m s t u p (takes-nothing n t u h)
-outcome-cut halt.Memory n l m s t u p h =
-    cut-last l m s t u (first_lines p.0) (status_of halt.Memory) n p.1 (take p.0 (p.1.bytes ++ 10 ∷ [])) (drop p.0 (p.1.bytes ++ 10 ∷ [])) (take-append-drop p.0 (p.1.bytes ++ 10 ∷ [])) refl h
+outcome-cut halt.Memory n l m s t u p h = cut-last l m s t u halt.Memory n p.bytes p.front p.out p.given p.is_front p.written p.replay h
 outcome-cut halt.TooLong n l m s t u p h =
-    cut-last l m s t u lines_within_most (status_of halt.TooLong) n p (take most_bytes p.bytes) (drop most_bytes p.bytes ++ 10 ∷ []) (sym (append_assoc (take most_bytes p.bytes) (drop most_bytes p.bytes) (10 ∷ [])) ∙ ap (λ x. x ++ 10 ∷ []) (take-append-drop most_bytes p.bytes)) refl h
-
--- the run reads nothing, and its usage line is cut short
-pub usage-cut : (n : ℕ) (status : Status) (l s t : Option (List ℕ)) → Takes s t (take n (last_line status)) → IsCutShort l l s t
-usage-cut n status l s t h = record {
-  bytes = [];
-  given = Gives-nothing l;
-  front = [];
-  back = 10 ∷ [];
-  is = refl;
-  lost = [];
-  status = status;
-  out = take n (last_line status);
-  written = h;
-  missing = drop n (last_line status);
-  replay = take-append-drop n (last_line status);
-}
+    cut-last l m s t u halt.TooLong n p.bytes (take most_bytes p.bytes) p.out p.given (inl (drop most_bytes p.bytes, take-append-drop most_bytes p.bytes)) p.written p.replay h
 
 is-write : (r : Status) → (r ≡ WriteFault) ⊎ (r ≢ WriteFault)
 is-write Good = inr (λ e. cc)
@@ -235,10 +233,10 @@ outcome-halt x r l m s t u p whole part =
       | inr ne ↦ subst P (sym (whole ne).0) (outcome-told x l m s t u p (whole ne).1)
     ]
 
-pub outcome-usage : (r : Status) (l s t : Option (List ℕ)) → (r ≢ WriteFault → (r ≡ Usage) × Takes s t (last_line Usage)) → (r ≡ WriteFault → (n : ℕ) × Takes s t (take n (last_line Usage))) → Outcome r l l s t
-outcome-usage r l s t whole part =
-    let P : Status → Type 0 = λ y. Outcome y l l s t in
+pub outcome-usage : (r : Status) (s t : Option (List ℕ)) → (r ≢ WriteFault → (r ≡ Usage) × Takes s t (last_line Usage)) → (r ≡ WriteFault → (n : ℕ) × Takes s t (take n (last_line Usage))) → UsageOutcome r s t
+outcome-usage r s t whole part =
+    let P : Status → Type 0 = λ y. UsageOutcome y s t in
     elim (is-write r) [
-      | inl e ↦ subst P (sym e) (usage-cut (part e).0 Usage l s t (part e).1)
+      | inl e ↦ subst P (sym e) (part e)
       | inr ne ↦ subst P (sym (whole ne).0) (whole ne).1
     ]

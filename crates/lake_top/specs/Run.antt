@@ -1,10 +1,10 @@
 -- What a run has read of its source and written to its sink.
-use Rattle.std.specs.Prelude.{◌≡◌, ℕ, Bool, true, false, List, [], ◌∷◌, ◌++◌, Option, codes}
+use Rattle.std.specs.Prelude.{◌≡◌, ℕ, Bool, true, false, List, [], ◌∷◌, ◌++◌, take, Option, Some, None, codes, ◌⊎◌}
 use Rattle.lake_io.specs.Told.{Gives, IsAtEnd, Takes}
 use Rattle.lake_model.specs.Lake.{new_lake}
 use Rattle.lake_model.specs.Replay.{Line, IsReplay, replay_text}
 use Rattle.lake_top.specs.Desk.{Desk, Moves, Stops, StopsOff}
-use Rattle.lake_top.specs.Script.{first_lines, lines_of, lines_within_most, script_lines}
+use Rattle.lake_top.specs.Script.{lines_of, lines_within_most, script_lines}
 use Rattle.lake_top.specs.declared.desk.Stop.TheVariants as stop
 use Rattle.lake_top.specs.declared.halt.Halt.{Halt}
 use Rattle.lake_top.specs.declared.halt.Halt.TheVariants as halt
@@ -29,42 +29,68 @@ last_line WriteFault = []
 last_line Memory = codes "! no memory\n"
 last_line TooLong = codes "! too long\n"
 
--- The run was cut short while it wrote: what the sink took stands at the front of the replay of the first lines of
--- the bytes that its source gave, whose end counts as a line feed, with the last line of some status behind it.
-pub record IsCutShort (left left' taken taken' : Option (List ℕ)) : Type 0 where
+-- The front ends with some line of the script: it stands at the front of the bytes that were given, or, at the end of
+-- the input, of the whole script, whose end counts as a line feed.
+abbrev pub IsFront : List ℕ → List ℕ → Option (List ℕ) → Type 0
+IsFront front bytes left' =
+    ((back : List ℕ) × (front ++ back ≡ bytes)) ⊎ (IsAtEnd left' × ((back : List ℕ) × (front ++ back ≡ bytes ++ 10 ∷ [])))
+
+-- The run has answered the first lines of the script, and wrote the last line behind their replies.
+pub record AnsweredFront (left left' taken taken' : Option (List ℕ)) (last : List ℕ) : Type 0 where
   pub bytes : List ℕ
   pub given : Gives left left' bytes
   pub front : List ℕ
-  pub back : List ℕ
-  pub is : front ++ back ≡ bytes ++ 10 ∷ []
-  pub lost : List Bool
-  pub status : Status
+  pub is_front : IsFront front bytes left'
   pub out : List ℕ
-  pub written : Takes taken taken' out
-  pub missing : List ℕ
-  pub replay : out ++ missing ≡ replay_text new_lake (lines_of front) lost ++ last_line status
-
--- What a run has read and written, by the status that it ends with.
-abbrev pub Outcome : Status → Option (List ℕ) → Option (List ℕ) → Option (List ℕ) → Option (List ℕ) → Type 0
-Outcome Good left left' taken taken' = IsAtEnd left' × Answered left left' taken taken' script_lines (last_line Good)
-Outcome Usage left left' taken taken' = Takes taken taken' (last_line Usage)
-Outcome ReadFault left left' taken taken' = Answered left left' taken taken' lines_of (last_line ReadFault)
-Outcome WriteFault left left' taken taken' = IsCutShort left left' taken taken'
-Outcome Memory left left' taken taken' = (n : ℕ) × Answered left left' taken taken' (first_lines n) (last_line Memory)
-Outcome TooLong left left' taken taken' = Answered left left' taken taken' lines_within_most (last_line TooLong)
-
--- the same before the last line is written
-abbrev pub Halts : Halt → Option (List ℕ) → Option (List ℕ) → Option (List ℕ) → Option (List ℕ) → Type 0
-Halts halt.Read left left' taken taken' = Answered left left' taken taken' lines_of []
-Halts halt.Write left left' taken taken' = IsCutShort left left' taken taken'
-Halts halt.Memory left left' taken taken' = (n : ℕ) × Answered left left' taken taken' (first_lines n) []
-Halts halt.TooLong left left' taken taken' = Answered left left' taken taken' lines_within_most []
+  pub written : Takes taken taken' (out ++ last)
+  pub replay : IsReplay new_lake (lines_of front) out
 
 abbrev pub status_of : Halt → Status
 status_of halt.Read = ReadFault
 status_of halt.Write = WriteFault
 status_of halt.Memory = Memory
 status_of halt.TooLong = TooLong
+
+-- the last line that a run writes where it has halted, and none before it has
+abbrev pub halt_line : Option Halt → List ℕ
+halt_line None = []
+halt_line (Some halt) = last_line (status_of halt)
+
+-- The run was cut short while it wrote: what the sink took stands at the front of the replay of the first lines of
+-- the script, with the last line of a halt behind it.
+pub record IsCutShort (left left' taken taken' : Option (List ℕ)) : Type 0 where
+  pub bytes : List ℕ
+  pub given : Gives left left' bytes
+  pub front : List ℕ
+  pub is_front : IsFront front bytes left'
+  pub lost : List Bool
+  pub halt : Option Halt
+  pub out : List ℕ
+  pub written : Takes taken taken' out
+  pub missing : List ℕ
+  pub replay : out ++ missing ≡ replay_text new_lake (lines_of front) lost ++ halt_line halt
+
+-- What a run with exactly one word has read and written, by the status that it ends with.
+abbrev pub Outcome : Status → Option (List ℕ) → Option (List ℕ) → Option (List ℕ) → Option (List ℕ) → Type 0
+Outcome Good left left' taken taken' = IsAtEnd left' × Answered left left' taken taken' script_lines (last_line Good)
+Outcome Usage left left' taken taken' = ⊥
+Outcome ReadFault left left' taken taken' = Answered left left' taken taken' lines_of (last_line ReadFault)
+Outcome WriteFault left left' taken taken' = IsCutShort left left' taken taken'
+Outcome Memory left left' taken taken' = AnsweredFront left left' taken taken' (last_line Memory)
+Outcome TooLong left left' taken taken' = Answered left left' taken taken' lines_within_most (last_line TooLong)
+
+-- What a run with other words has written.
+abbrev pub UsageOutcome : Status → Option (List ℕ) → Option (List ℕ) → Type 0
+UsageOutcome Usage taken taken' = Takes taken taken' (last_line Usage)
+UsageOutcome WriteFault taken taken' = (n : ℕ) × Takes taken taken' (take n (last_line Usage))
+UsageOutcome status taken taken' = ⊥
+
+-- what a run has read and written where it halts, before the last line
+abbrev pub Halts : Halt → Option (List ℕ) → Option (List ℕ) → Option (List ℕ) → Option (List ℕ) → Type 0
+Halts halt.Read left left' taken taken' = Answered left left' taken taken' lines_of []
+Halts halt.Write left left' taken taken' = IsCutShort left left' taken taken'
+Halts halt.Memory left left' taken taken' = AnsweredFront left left' taken taken' []
+Halts halt.TooLong left left' taken taken' = Answered left left' taken taken' lines_within_most []
 
 -- what one piece and the end of the input come to where the run halts there
 abbrev pub TurnHalts : Halt → Desk → Option (List ℕ) → Option (List ℕ) → Option (List ℕ) → Option (List ℕ) → Type 0

@@ -31,10 +31,6 @@ lines_of bytes = counted no_counts (ended_lines bytes)
 abbrev pub script_lines : List ℕ → List Line
 script_lines script = lines_of (script ++ 10 ∷ [])
 
--- the lines that end in the first n bytes of a script, where its end counts as a line feed
-abbrev pub first_lines : ℕ → List ℕ → List Line
-first_lines n script = lines_of (take n (script ++ 10 ∷ []))
-
 -- a script has at most so many bytes
 abbrev pub most_bytes : ℕ
 most_bytes = 67108864

@@ -120,3 +120,64 @@ fn faults_and_usage(rt: HostRuntime) -> Result<(), Fail> {
     }
     Ok(())
 }
+
+/// A text with so many further bytes behind it.
+fn padded(alloc: Global, front: &str, byte: u8, more: usize) -> Result<Vec<u8>, AllocError> {
+    let mut bytes = front.as_bytes().to_vec(alloc)?;
+    bytes.extend_from_slice(vec![in alloc; byte; more]?.as_slice())?;
+    Ok(bytes)
+}
+
+/// A script that makes a table of so many columns.
+fn wide_table(alloc: Global, columns: usize) -> Result<Vec<u8>, AllocError> {
+    let mut script = String::from_str(alloc, "1 BEGIN\n1 CREATE TABLE t (c BIGINT")?;
+    for number in 1..columns {
+        script.push_str(format!(in alloc; ", c{number} BIGINT")?.as_str())?;
+    }
+    script.push_str(")\n")?;
+    script.as_bytes().to_vec(alloc)
+}
+
+/// A script that makes a table with a name of so many bytes.
+fn long_name(alloc: Global, len: usize) -> Result<Vec<u8>, AllocError> {
+    let mut script = padded(alloc, "1 BEGIN\n1 CREATE TABLE ", b'a', len)?;
+    script.extend_from_slice(b" (a BIGINT)\n")?;
+    Ok(script)
+}
+
+/// Whether a script ends so and is answered so.
+fn ends(alloc: Global, script: Vec<u8>, ended: Status, written: &str) -> Result<bool, AllocError> {
+    let words = words(alloc, 1)?;
+    let mut input = SureSource::new(script);
+    let mut output = SureSink::with_room(alloc, 4096)?;
+    let status = run(alloc, words.as_slice(), &mut input, &mut output);
+    Ok(status == ended && output.bytes() == written.as_bytes())
+}
+
+#[test]
+fn limits_of_a_script_and_a_line(rt: HostRuntime) -> Result<(), Fail> {
+    let alloc = rt.alloc();
+    let line = padded(alloc, "1 BEGIN", b' ', 1_048_569)?;
+    assert!(rt; ends(alloc, line, Status::Good, "1.1 ok 0\n")?);
+    let line = padded(alloc, "1 BEGIN", b' ', 1_048_570)?;
+    assert!(rt; ends(alloc, line, Status::Good, "1.1 not built\n")?);
+    let script = padded(alloc, "1 BEGIN\n#", b'x', 67_108_855)?;
+    assert!(rt; ends(alloc, script, Status::Good, "1.1 ok 0\n")?);
+    let script = padded(alloc, "1 BEGIN\n#", b'x', 67_108_856)?;
+    assert!(rt; ends(alloc, script, Status::TooLong, "1.1 ok 0\n! too long\n")?);
+    Ok(())
+}
+
+#[test]
+fn limits_of_a_table(rt: HostRuntime) -> Result<(), Fail> {
+    let alloc = rt.alloc();
+    let table = wide_table(alloc, 100)?;
+    assert!(rt; ends(alloc, table, Status::Good, "1.1 ok 0\n1.2 ok\n")?);
+    let table = wide_table(alloc, 101)?;
+    assert!(rt; ends(alloc, table, Status::Good, "1.1 ok 0\n1.2 not built\n")?);
+    let table = long_name(alloc, 255)?;
+    assert!(rt; ends(alloc, table, Status::Good, "1.1 ok 0\n1.2 ok\n")?);
+    let table = long_name(alloc, 256)?;
+    assert!(rt; ends(alloc, table, Status::Good, "1.1 ok 0\n1.2 not built\n")?);
+    Ok(())
+}

@@ -1,9 +1,9 @@
-ghost use Rattle.std.specs.Prelude.{◌≡◌, ◌≢◌, ◌≤◌, ◌<◌, ◌+◌, ◌-◌, ◌^◌, ◌⊎◌, ◌∷◌, [], ℕ, min, IfErr, IfOk, OnErr, OnOk, Ok, true, length, take};
+ghost use Rattle.std.specs.Prelude.{◌≡◌, ◌≢◌, ◌≤◌, ◌<◌, ◌+◌, ◌-◌, ◌^◌, ◌⊎◌, ◌∷◌, [], ℕ, min, IfErr, IfOk, OnErr, OnOk, Ok, true, false, length, take};
 ghost use Rattle.lake_io.specs.Causes.{Rose};
 ghost use Rattle.lake_io.specs.Told.{Gives, IsAtEnd, Takes};
 ghost use Rattle.lake_model.specs.Cuts.{NoFeed};
 ghost use Rattle.lake_top.specs.Desk.{new_desk, Answers, Moves};
-ghost use Rattle.lake_top.specs.Run.{Answered, FinishHalts, GivesMore, Halts, Outcome, TurnHalts, last_line};
+ghost use Rattle.lake_top.specs.Run.{Answered, FinishHalts, GivesMore, Halts, Outcome, TurnHalts, UsageOutcome, last_line};
 ghost use Rattle.lake_top.specs.Script.{script_lines};
 
 use crate::desk::{Desk, Stop};
@@ -18,7 +18,7 @@ const MOST_BYTES: u64 = 67_108_864;
 /// How many bytes are read at once.
 const PIECE_BYTES: usize = 65_536;
 
-/// Reads a piece and answers the lines that end in it, and answers how long it is.
+/// Reads a piece, answers the lines that end in it, and gives its length.
 fn turn<S: Source, O: Sink>(
     alloc: Global,
     input: &mut S,
@@ -28,11 +28,13 @@ fn turn<S: Source, O: Sink>(
 ) -> Result<usize, Halt>
     requires room { 0 < length piece.old }
     requires begun { NoFeed desk.old.pending }
-    ensures ok { IfOk result (λ n. Moves desk.old desk.new n (S.left input.old) (S.left input.new) (O.taken output.old) (O.taken output.new)) }
+    ensures ok { IfOk result (λ n. Moves desk.old desk.new n
+        (S.left input.old) (S.left input.new) (O.taken output.old) (O.taken output.new)) }
     ensures end { IfOk result (λ n. n ≡ 0 → IsAtEnd (S.left input.new)) }
     ensures within { IfOk result (λ n. n ≤ length piece.old) }
     ensures given { IfOk result (λ n. S.given input.new ≡ min (S.given input.old + n) (2 ^ 64 - 1)) }
-    ensures halt { IfErr result (λ halt. TurnHalts halt desk.old (S.left input.old) (S.left input.new) (O.taken output.old) (O.taken output.new)) }
+    ensures halt { IfErr result (λ halt. TurnHalts halt desk.old
+        (S.left input.old) (S.left input.new) (O.taken output.old) (O.taken output.new)) }
     ensures read_later { S.faults input.old ≤ S.faults input.new }
     ensures written_later { O.faults output.old ≤ O.faults output.new }
     ensures read { result ≡ Err Halt.Read → Rose (S.faults input.old) (S.faults input.new) }
@@ -50,8 +52,10 @@ fn turn<S: Source, O: Sink>(
 
 /// Ends the last line at the end of the input.
 fn finish<O: Sink>(alloc: Global, output: &mut O, desk: &mut Desk) -> Result<(), Halt>
-    ensures ok { OnOk result (Answers desk.old desk.new (10 ∷ []) (O.taken output.old) (O.taken output.new)) }
-    ensures halt { IfErr result (λ halt. FinishHalts halt desk.old (O.taken output.old) (O.taken output.new)) }
+    ensures ok { OnOk result (Answers desk.old desk.new (10 ∷ [])
+        (O.taken output.old) (O.taken output.new)) }
+    ensures halt { IfErr result (λ halt. FinishHalts halt desk.old
+        (O.taken output.old) (O.taken output.new)) }
     ensures later { O.faults output.old ≤ O.faults output.new }
     ensures write { result ≡ Err Halt.Write → Rose (O.faults output.old) (O.faults output.new) }
 {
@@ -65,6 +69,7 @@ fn finish<O: Sink>(alloc: Global, output: &mut O, desk: &mut Desk) -> Result<(),
 /// Whether the input has a byte past the most of a script, which it then takes.
 fn goes_past<S: Source>(input: &mut S) -> Result<bool, Halt>
     ensures more { IfOk result (λ more. GivesMore more (S.left input.old) (S.left input.new)) }
+    ensures none { result ≡ Ok false → S.given input.new ≤ S.given input.old }
     ensures given { result ≡ Ok true → min (S.given input.old + 1) (2 ^ 64 - 1) ≤ S.given input.new }
     ensures fault { OnErr result (Gives (S.left input.old) (S.left input.new) []) }
     ensures later { S.faults input.old ≤ S.faults input.new }
@@ -88,12 +93,16 @@ fn answer_all<S: Source, O: Sink>(
 ) -> Result<(), Halt>
     requires new { desk.old ≡ new_desk }
     requires room { 0 < length piece.old }
-    ensures ok { OnOk result (Answered (S.left input.old) (S.left input.new) (O.taken output.old) (O.taken output.new) script_lines []) }
+    ensures ok { OnOk result (Answered
+        (S.left input.old) (S.left input.new) (O.taken output.old) (O.taken output.new) script_lines []) }
     ensures end { OnOk result (IsAtEnd (S.left input.new)) }
-    ensures halt { IfErr result (λ halt. Halts halt (S.left input.old) (S.left input.new) (O.taken output.old) (O.taken output.new)) }
+    ensures halt { IfErr result (λ halt. Halts halt
+        (S.left input.old) (S.left input.new) (O.taken output.old) (O.taken output.new)) }
+    ensures short { OnOk result (S.given input.new ≤ S.given input.old + 67108864) }
     ensures read { result ≡ Err Halt.Read → Rose (S.faults input.old) (S.faults input.new) }
     ensures write { result ≡ Err Halt.Write → Rose (O.faults output.old) (O.faults output.new) }
-    ensures long { result ≡ Err Halt.TooLong → min (S.given input.old + 67108865) (2 ^ 64 - 1) ≤ S.given input.new }
+    ensures long { result ≡ Err Halt.TooLong →
+        min (S.given input.old + 67108865) (2 ^ 64 - 1) ≤ S.given input.new }
     ensures later { O.faults output.old ≤ O.faults output.new }
 {
     let mut total = 0u64;
@@ -131,12 +140,16 @@ fn begun(alloc: Global) -> Result<(Desk, Vec<u8>), AllocError>
 }
 
 fn answered<S: Source, O: Sink>(alloc: Global, input: &mut S, output: &mut O) -> Result<(), Halt>
-    ensures ok { OnOk result (Answered (S.left input.old) (S.left input.new) (O.taken output.old) (O.taken output.new) script_lines []) }
+    ensures ok { OnOk result (Answered
+        (S.left input.old) (S.left input.new) (O.taken output.old) (O.taken output.new) script_lines []) }
     ensures end { OnOk result (IsAtEnd (S.left input.new)) }
-    ensures halt { IfErr result (λ halt. Halts halt (S.left input.old) (S.left input.new) (O.taken output.old) (O.taken output.new)) }
+    ensures halt { IfErr result (λ halt. Halts halt
+        (S.left input.old) (S.left input.new) (O.taken output.old) (O.taken output.new)) }
+    ensures short { OnOk result (S.given input.new ≤ S.given input.old + 67108864) }
     ensures read { result ≡ Err Halt.Read → Rose (S.faults input.old) (S.faults input.new) }
     ensures write { result ≡ Err Halt.Write → Rose (O.faults output.old) (O.faults output.new) }
-    ensures long { result ≡ Err Halt.TooLong → min (S.given input.old + 67108865) (2 ^ 64 - 1) ≤ S.given input.new }
+    ensures long { result ≡ Err Halt.TooLong →
+        min (S.given input.old + 67108865) (2 ^ 64 - 1) ≤ S.given input.new }
     ensures later { O.faults output.old ≤ O.faults output.new }
 {
     match begun(alloc) {
@@ -152,10 +165,13 @@ fn answered<S: Source, O: Sink>(alloc: Global, input: &mut S, output: &mut O) ->
 
 /// Writes the last line of a status, which is a write fault where that fails.
 fn told<O: Sink>(output: &mut O, status: Status) -> Status
-    ensures whole { result ≢ Status.WriteFault → (result ≡ status) × Takes (O.taken output.old) (O.taken output.new) (last_line status) }
-    ensures part { result ≡ Status.WriteFault → (n : ℕ) × Takes (O.taken output.old) (O.taken output.new) (take n (last_line status)) }
+    ensures whole { result ≢ Status.WriteFault →
+        (result ≡ status) × Takes (O.taken output.old) (O.taken output.new) (last_line status) }
+    ensures part { result ≡ Status.WriteFault →
+        (n : ℕ) × Takes (O.taken output.old) (O.taken output.new) (take n (last_line status)) }
     ensures later { O.faults output.old ≤ O.faults output.new }
-    ensures fault { result ≡ Status.WriteFault → (status ≡ Status.WriteFault) ⊎ Rose (O.faults output.old) (O.faults output.new) }
+    ensures fault { result ≡ Status.WriteFault →
+        (status ≡ Status.WriteFault) ⊎ Rose (O.faults output.old) (O.faults output.new) }
 {
     match write_all(output, status.last_line()) {
         Ok(()) => status,
@@ -174,17 +190,19 @@ pub fn run<S: Source, O: Sink>(
     output: &mut O,
 ) -> Status
     // What is read and written, by the status.
-    ensures output { Outcome result (S.left input.old) (S.left input.new) (O.taken output.old) (O.taken output.new) }
+    ensures output { length words.now ≡ 1 → Outcome result (S.left input.old) (S.left input.new)
+        (O.taken output.old) (O.taken output.new) }
 
-    // The words alone decide on the usage line, before anything is read.
-    ensures usage { result ≡ Status.Usage → length words.now ≢ 1 }
-    ensures refused { length words.now ≢ 1 → (result ≡ Status.Usage) ⊎ (result ≡ Status.WriteFault) }
+    // Other words are answered by the usage line, and nothing is read.
+    ensures usage { length words.now ≢ 1 → UsageOutcome result (O.taken output.old) (O.taken output.new) }
     ensures unread { length words.now ≢ 1 → input.new ≡ input.old }
 
-    // The causes of the faults.
+    // The causes of the statuses.
+    ensures short { result ≡ Status.Good → S.given input.new ≤ S.given input.old + 67108864 }
     ensures read { result ≡ Status.ReadFault → Rose (S.faults input.old) (S.faults input.new) }
     ensures write { result ≡ Status.WriteFault → Rose (O.faults output.old) (O.faults output.new) }
-    ensures long { result ≡ Status.TooLong → min (S.given input.old + 67108865) (2 ^ 64 - 1) ≤ S.given input.new }
+    ensures long { result ≡ Status.TooLong →
+        min (S.given input.old + 67108865) (2 ^ 64 - 1) ≤ S.given input.new }
 {
     if words.len() != 1 {
         return told(output, Status::Usage);

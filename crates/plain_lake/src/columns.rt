@@ -71,7 +71,6 @@ fn column_of(alloc: Global, field: u32, def: &ColumnDef) -> Result<Column, Alloc
 }
 
 /// The columns with their field ids from 1. A field id past its type counts as want of memory.
-
 pub fn columns_of(alloc: Global, defs: &[ColumnDef]) -> Result<ColumnList, AllocError>
     ensures { IfOk result (λ columns. columns ≡ spec.columns_from 1 defs.now) }
 {

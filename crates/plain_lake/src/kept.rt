@@ -240,8 +240,8 @@ impl Kept {
         }
     }
 
-    /// Answers a line of a session, which has no statement where its form is not built. An `Err` changes
-    /// nothing.
+    /// Answers a line of a session, which has no statement where its form is not built. Session 0 stands
+    /// for lines of no session, and has no statement. An `Err` changes nothing.
     pub fn step(
         &mut self,
         alloc: Global,
@@ -254,8 +254,8 @@ impl Kept {
         ensures err { OnErr result (self.new ≡ self.old) }
     {
         match read {
-            Some(stmt) => self.step_of(alloc, session, stmt),
-            None => Ok(only(alloc, Answer::NotBuilt)),
+            Some(stmt) if session > 0 => self.step_of(alloc, session, stmt),
+            _ => Ok(only(alloc, Answer::NotBuilt)),
         }
     }
 }

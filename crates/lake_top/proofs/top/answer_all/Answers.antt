@@ -17,6 +17,7 @@ loop-total-init g c =
       small = omega arith;
       moved = subst P (sym c.requires.new) (moves-none new_desk (left c.args.input.now) (taken c.args.output.now) tt);
       given = omega arith;
+      given_most = omega arith;
       read_later = omega arith;
       written_later = omega arith;
     }
@@ -40,7 +41,7 @@ returns-in-Err-finish-clause-halt g c =
     let left = g.S.Source.left in
     let taken = g.O.Sink.taken in
     let l = c.loop-total in
-    finish-halts c.in-Err-finish.halt c.turn.new.desk _ (left c.args.input.now) (left c.turn.new.input) (taken c.args.output.now) (taken c.turn.new.output) (taken c.finish.new.output) (moves-then new_desk l.desk c.turn.new.desk l.total c.in-Ok.count (left c.args.input.now) (left l.input) (left c.turn.new.input) (taken c.args.output.now) (taken l.output) (taken c.turn.new.output) l.invariant.moved c.in-Ok.ensures.ok) c.in-Err-finish.ensures.halt
+    finish-halts c.in-Err-finish.halt c.turn.new.desk _ (left c.args.input.now) (left c.turn.new.input) (taken c.args.output.now) (taken c.turn.new.output) (taken c.finish.new.output) (c.in-Ok.ensures.end c.if-count-eq0.true) (moves-then new_desk l.desk c.turn.new.desk l.total c.in-Ok.count (left c.args.input.now) (left l.input) (left c.turn.new.input) (taken c.args.output.now) (taken l.output) (taken c.turn.new.output) l.invariant.moved c.in-Ok.ensures.ok) c.in-Err-finish.ensures.halt
 
 pub loop-total-preserved : goal.loop-total-preserved
 loop-total-preserved g c =
@@ -51,6 +52,7 @@ loop-total-preserved g c =
       small = omega (arith, c.in-Ok.ensures.within, c.min-room.ensures, c.loop-total-test.true, length-take c.min-room.result l.piece);
       moved = moves-then new_desk l.desk c.turn.new.desk l.total c.in-Ok.count (left c.args.input.now) (left l.input) (left c.turn.new.input) (taken c.args.output.now) (taken l.output) (taken c.turn.new.output) l.invariant.moved c.in-Ok.ensures.ok;
       given = omega (arith, c.in-Ok.ensures.given, l.invariant.given);
+      given_most = omega (arith, c.in-Ok.ensures.given, l.invariant.given_most);
       read_later = omega (arith, c.turn.ensures.read_later, l.invariant.read_later);
       written_later = omega (arith, c.turn.ensures.written_later, l.invariant.written_later);
     }
@@ -76,7 +78,7 @@ returns-in-Err-finish-2-clause-halt g c =
     let left = g.S.Source.left in
     let taken = g.O.Sink.taken in
     let l = c.loop-total in
-    finish-halts c.in-Err-finish-2.halt l.desk l.total (left c.args.input.now) (left c.goes_past.new.input) (taken c.args.output.now) (taken l.output) (taken c.finish-in-Ok-false.new.output) (moves-end l.desk l.total (left c.args.input.now) (left l.input) (left c.goes_past.new.input) (taken c.args.output.now) (taken l.output) l.invariant.moved (rw c.in-Ok-false.field-0-test at c.in-Ok-false.ensures.more).1) c.in-Err-finish-2.ensures.halt
+    finish-halts c.in-Err-finish-2.halt l.desk l.total (left c.args.input.now) (left c.goes_past.new.input) (taken c.args.output.now) (taken l.output) (taken c.finish-in-Ok-false.new.output) (rw c.in-Ok-false.field-0-test at c.in-Ok-false.ensures.more).0 (moves-end l.desk l.total (left c.args.input.now) (left l.input) (left c.goes_past.new.input) (taken c.args.output.now) (taken l.output) l.invariant.moved (rw c.in-Ok-false.field-0-test at c.in-Ok-false.ensures.more).1) c.in-Err-finish-2.ensures.halt
 
 pub returns-in-Err-goes_past-clause-halt : goal.returns-in-Err-goes_past-clause-halt
 returns-in-Err-goes_past-clause-halt g c =

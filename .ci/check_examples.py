@@ -1,5 +1,5 @@
 #!/usr/bin/env python3
-"""Runs what README.md and docs/GUIDE.md show through the program, and compares the replies.
+"""Runs what README.md and docs/GUIDE.md show through the program, compares the replies, and breaks its streams.
 
 In GUIDE.md each table with the head `| script | reply |` is a script and its replies, line by line; in README.md the
 block behind "The first one prints" is the output for examples/first_path.script.
@@ -37,6 +37,18 @@ def readme_example():
     return text_of("examples/first_path.script"), re.sub(r"^    ", "", shown, flags=re.M)
 
 
+def check_streams():
+    """An input that can't be read ends with status 3, and an output that takes nothing with 4."""
+    folder = os.open(TOP, os.O_RDONLY)
+    unread = subprocess.run([os.path.join(TOP, "lake")], stdin=folder, capture_output=True)
+    if (unread.returncode, unread.stdout) != (3, b"! read fault\n"):
+        sys.exit(f"an unreadable input ends with {unread.returncode} and {unread.stdout}")
+    with open("/dev/full", "wb") as full:
+        lost = subprocess.run([os.path.join(TOP, "lake")], input=b"1 BEGIN\n", stdout=full)
+    if lost.returncode != 4:
+        sys.exit(f"a full output ends with {lost.returncode}")
+
+
 def main():
     examples = [*guide_examples(), readme_example()]
     if len(examples) < 6:
@@ -45,7 +57,9 @@ def main():
         found = written(script)
         if found != replies:
             sys.exit(f"the script\n{script}is answered\n{found}and the document says\n{replies}")
+    check_streams()
     print(f"{len(examples)} examples of README.md and docs/GUIDE.md are answered as they say")
 
 
-main()
+if __name__ == "__main__":
+    main()
