@@ -1,11 +1,11 @@
 -- What one line is answered by.
-use Rattle.std.proofs.Common.{◌≡◌, ℕ, List, [], ◌∷◌, ◌++◌, refl, ap, ◌∙◌, Bool, true, false}
+use Rattle.std.proofs.Common.{◌≡◌, ℕ, List, [], ◌∷◌, refl, Bool, true, false}
 use Rattle.lake_model.specs.Lake.{Lake}
-use Rattle.lake_model.specs.Replay.{Line, replay_text, told, turn}
+use Rattle.lake_model.specs.Replay.{told, turn}
 use Rattle.lake_model.specs.declared.answer.Reply.{Reply}
 use Rattle.line_forms.specs.Lines.{is_skipped, shorn}
-use Rattle.lake_top.specs.Desk.{IsTurn, Tells, TellsSome}
-use Rattle.lake_top.specs.Script.{counted, counts_after, line_at}
+use Rattle.lake_top.specs.Desk.{Tells, TellsSome}
+use Rattle.lake_top.specs.Script.{counts_after, line_at}
 
 pub tells-skipped : (lake : Lake) (counts line : List ℕ) → is_skipped (shorn line) ≡ true → Tells lake counts line [] [] lake counts
 tells-skipped lake counts line h lines later = rw h refl

@@ -1,20 +1,18 @@
 -- What a run has read and written.
-use Rattle.std.proofs.Common.{◌≡◌, ◌≢◌, ℕ, ◌+◌, ◌<◌, ◌≤◌, List, [], ◌∷◌, ◌++◌, length, take, drop, refl, ap, arith, sym, ◌∙◌, append_assoc, append-nil, length-append, subst, Bool, ◌⊎◌, inl, inr}
+use Rattle.std.proofs.Common.{◌≡◌, ◌≢◌, ℕ, ◌+◌, ◌≤◌, List, [], ◌∷◌, ◌++◌, length, take, drop, refl, ap, arith, sym, ◌∙◌, append_assoc, append-nil, length-append, subst, Bool, ◌⊎◌, inl, inr}
 use Rattle.std.specs.Prelude.{Option, Some, None}
 use Rattle.std.proofs.Math.Seq.{take-append_seam, take-nil}
 use Rattle.std.proofs.lemmas.List.{take-append-drop}
 use Rattle.lake_io.specs.Told.{Takes, Gives, IsAtEnd}
 use Rattle.lake_io.proofs.ToldLemmas.{Takes-nothing, Takes-then, Gives-nothing, Gives-then}
 use Rattle.lake_model.specs.Cuts.{NoFeed}
-use Rattle.lake_model.specs.Lake.{Lake, new_lake}
+use Rattle.lake_model.specs.Lake.{new_lake}
 use Rattle.lake_model.specs.Replay.{Line, IsReplay, lost_in, replay_text}
 use Rattle.lake_model.proofs.ReplayLemmas.{replay-lost_in}
-use Rattle.lake_top.proofs.DeskLemmas.{answers-none, answers-then, breaks-then, ends-then, text-none}
-use Rattle.lake_top.specs.Desk.{Answers, Breaks, Desk, Ends, Moves, Stops, StopsOff, new_desk, text_from}
-use Rattle.lake_top.specs.Run.{Answered, AnsweredFront, FinishHalts, Halts, IsCutShort, IsFront, Outcome, TurnHalts, UsageOutcome, last_line, status_of}
+use Rattle.lake_top.proofs.DeskLemmas.{answers-none, answers-then, text-none}
+use Rattle.lake_top.specs.Desk.{Answers, Desk, Moves, new_desk, text_from}
+use Rattle.lake_top.specs.Run.{Answered, AnsweredFront, FinishHalts, Halts, IsCutShort, IsFront, IsKept, Outcome, TurnHalts, UsageOutcome, last_line, status_of}
 use Rattle.lake_top.specs.Script.{lines_of, lines_within_most, most_bytes, script_lines}
-use Rattle.lake_top.specs.declared.desk.Stop.{Stop}
-use Rattle.lake_top.specs.declared.desk.Stop.TheVariants as stop
 use Rattle.lake_top.specs.declared.halt.Halt.{Halt}
 use Rattle.lake_top.specs.declared.halt.Halt.TheVariants as halt
 use Rattle.lake_top.specs.declared.status.Status.{Status}
@@ -84,33 +82,51 @@ answered-long d n l m o s t more p e h =
       replay = is-replay (lines_within_most (p.bytes ++ more)) p.answered.lost p.answered.out (ap (λ x. replay_text new_lake (lines_of x) p.answered.lost) within ∙ written-text d p.bytes s t p.answered);
     }
 
--- want of memory, and a sink that fails
-front-within : (front back bytes more : List ℕ) → front ++ back ≡ bytes → front ++ (back ++ more) ≡ bytes ++ more
-front-within front back bytes more e = sym (append_assoc front back more) ∙ ap (λ x. x ++ more) e
+front-then : (x front back y : List ℕ) → front ++ back ≡ y → (x ++ front) ++ back ≡ x ++ y
+front-then x front back y e = append_assoc x front back ∙ ap (λ z. x ++ z) e
 
-ended-part : (bytes whole : List ℕ) (l m s t : Option (List ℕ)) → Gives l m bytes → (p : Ends new_desk whole s t) → IsFront p.front bytes m → AnsweredFront l m s t []
-ended-part bytes whole l m s t h p f = record {
-  bytes = bytes;
-  given = h;
-  front = p.front;
-  is_front = f;
-  out = p.out;
-  written = takes-last s t p.out p.written;
-  replay = is-replay (lines_of p.front) p.lost p.out p.text;
+-- what the desk has answered before the last piece is written whole
+kept-before : (d : Desk) (bytes piece : List ℕ) (lost : List Bool) (more : List ℕ) (s t : Option (List ℕ)) → length piece ≤ 65536 → (p : Answers new_desk d bytes s t) → IsKept (bytes ++ piece) (p.lost ++ lost) (p.out ++ more)
+kept-before d bytes piece lost more s t h p = record {
+  before = bytes;
+  piece = piece;
+  is = refl;
+  small = h;
+  rest = more;
+  whole = ap (λ x. x ++ more) (ap (λ x. replay_text new_lake (lines_of x) (p.lost ++ lost)) (sym (append-nil bytes)) ∙ p.goes_on [] lost ∙ ap (λ x. p.out ++ x) (text-none d lost p.begun) ∙ append-nil p.out);
 }
 
-broken-part : (bytes whole : List ℕ) (l m s t : Option (List ℕ)) → Gives l m bytes → (p : Breaks new_desk whole s t) → IsFront p.front bytes m → IsCutShort l m s t
-broken-part bytes whole l m s t h p f = record {
+kept-all : (d : Desk) (bytes : List ℕ) (lost : List Bool) (more : List ℕ) (s t : Option (List ℕ)) → (p : Answers new_desk d bytes s t) → IsKept bytes (p.lost ++ lost) (p.out ++ more)
+kept-all d bytes lost more s t p =
+    let P : List ℕ → Type 0 = λ x. IsKept x (p.lost ++ lost) (p.out ++ more) in
+    subst P (append-nil bytes) (kept-before d bytes [] lost more s t (omega arith) p)
+
+ended-part : (bytes : List ℕ) (l m s t : Option (List ℕ)) → Gives l m bytes → (front : List ℕ) (lost : List Bool) (out : List ℕ) → Takes s t out → text_from new_desk front lost ≡ out → IsFront front bytes m → IsKept bytes lost out → AnsweredFront l m s t []
+ended-part bytes l m s t h front lost out w e f k = record {
   bytes = bytes;
   given = h;
-  front = p.front;
+  front = front;
   is_front = f;
-  lost = p.lost;
+  lost = lost;
+  out = out;
+  kept = k;
+  written = takes-last s t out w;
+  replay = is-replay (lines_of front) lost out e;
+}
+
+broken-part : (bytes : List ℕ) (l m s t : Option (List ℕ)) → Gives l m bytes → (front : List ℕ) (lost : List Bool) (out missing : List ℕ) → Takes s t out → text_from new_desk front lost ≡ out ++ missing → IsFront front bytes m → IsKept bytes lost out → IsCutShort l m s t
+broken-part bytes l m s t h front lost out missing w e f k = record {
+  bytes = bytes;
+  given = h;
+  front = front;
+  is_front = f;
+  lost = lost;
   halt = None;
-  out = p.out;
-  written = p.written;
-  missing = p.missing;
-  replay = sym p.text ∙ sym (append-nil (replay_text new_lake (lines_of p.front) p.lost));
+  out = out;
+  written = w;
+  kept = k;
+  missing = missing;
+  replay = sym e ∙ sym (append-nil (replay_text new_lake (lines_of front) lost));
 }
 
 -- a piece at which the run halts
@@ -119,22 +135,24 @@ turn-halts halt.Read d n l m o s t u p q =
     let all : Moves new_desk d (n + 0) l o s u = moves-then new_desk d d n 0 l m o s t u p q in
     answered-by d all.bytes l o s u all.given all.answered
 turn-halts halt.Write d n l m o s t u p q =
-    let all : Breaks new_desk (p.bytes ++ q.bytes) s u = breaks-then new_desk d p.bytes q.bytes s t u p.answered q.stopped in
-    broken-part (p.bytes ++ q.bytes) (p.bytes ++ q.bytes) l o s u (Gives-then l m o p.bytes q.bytes p.given q.given) all (inl (all.back, all.is))
+    let a = p.answered in
+    let b = q.stopped in
+    broken-part (p.bytes ++ q.bytes) l o s u (Gives-then l m o p.bytes q.bytes p.given q.given) (p.bytes ++ b.front) (a.lost ++ b.lost) (a.out ++ b.out) b.missing (Takes-then s t u a.out b.out a.written b.written) (a.goes_on b.front b.lost ∙ ap (λ x. a.out ++ x) b.text ∙ sym (append_assoc a.out b.out b.missing)) (inl (b.back, front-then p.bytes b.front b.back q.bytes b.is)) (kept-before d p.bytes q.bytes b.lost b.out s t q.small a)
 turn-halts halt.Memory d n l m o s t u p q =
-    let all : Ends new_desk (p.bytes ++ q.bytes) s u = ends-then new_desk d p.bytes q.bytes s t u p.answered q.stopped in
-    ended-part (p.bytes ++ q.bytes) (p.bytes ++ q.bytes) l o s u (Gives-then l m o p.bytes q.bytes p.given q.given) all (inl (all.back, all.is))
+    let a = p.answered in
+    let b = q.stopped in
+    ended-part (p.bytes ++ q.bytes) l o s u (Gives-then l m o p.bytes q.bytes p.given q.given) (p.bytes ++ b.front) (a.lost ++ b.lost) (a.out ++ b.out) (Takes-then s t u a.out b.out a.written b.written) (a.goes_on b.front b.lost ∙ ap (λ x. a.out ++ x) b.text) (inl (b.back, front-then p.bytes b.front b.back q.bytes b.is)) (kept-before d p.bytes q.bytes b.lost b.out s t q.small a)
 turn-halts halt.TooLong d n l m o s t u p q = absurd q
 
 -- the end at which the run halts
 pub finish-halts : (x : Halt) (d : Desk) (n : ℕ) (l m s t u : Option (List ℕ)) → IsAtEnd m → Moves new_desk d n l m s t → FinishHalts x d t u → Halts x l m s u
 finish-halts halt.Read d n l m s t u a p q = absurd q
-finish-halts halt.Write d n l m s t u a p q =
-    let all : Breaks new_desk (p.bytes ++ 10 ∷ []) s u = breaks-then new_desk d p.bytes (10 ∷ []) s t u p.answered q in
-    broken-part p.bytes (p.bytes ++ 10 ∷ []) l m s u p.given all (inr (a, (all.back, all.is)))
-finish-halts halt.Memory d n l m s t u a p q =
-    let all : Ends new_desk (p.bytes ++ 10 ∷ []) s u = ends-then new_desk d p.bytes (10 ∷ []) s t u p.answered q in
-    ended-part p.bytes (p.bytes ++ 10 ∷ []) l m s u p.given all (inr (a, (all.back, all.is)))
+finish-halts halt.Write d n l m s t u e p b =
+    let a = p.answered in
+    broken-part p.bytes l m s u p.given (p.bytes ++ b.front) (a.lost ++ b.lost) (a.out ++ b.out) b.missing (Takes-then s t u a.out b.out a.written b.written) (a.goes_on b.front b.lost ∙ ap (λ x. a.out ++ x) b.text ∙ sym (append_assoc a.out b.out b.missing)) (inr (e, (b.back, front-then p.bytes b.front b.back (10 ∷ []) b.is))) (kept-all d p.bytes b.lost b.out s t a)
+finish-halts halt.Memory d n l m s t u e p b =
+    let a = p.answered in
+    ended-part p.bytes l m s u p.given (p.bytes ++ b.front) (a.lost ++ b.lost) (a.out ++ b.out) (Takes-then s t u a.out b.out a.written b.written) (a.goes_on b.front b.lost ∙ ap (λ x. a.out ++ x) b.text) (inr (e, (b.back, front-then p.bytes b.front b.back (10 ∷ []) b.is))) (kept-all d p.bytes b.lost b.out s t a)
 finish-halts halt.TooLong d n l m s t u a p q = absurd q
 
 -- the end of the input past the most of a script
@@ -150,7 +168,9 @@ halts-none l s = record {
   given = Gives-nothing l;
   front = [];
   is_front = inl ([], refl);
+  lost = [];
   out = [];
+  kept = record { before = []; piece = []; is = refl; small = omega arith; rest = []; whole = refl };
   written = Takes-nothing s;
   replay = refl;
 }
@@ -175,6 +195,7 @@ cut-last l m s t u x n bytes front out h f w r last = record {
   halt = Some x;
   out = out ++ take n (last_line (status_of x));
   written = Takes-then s t u out (take n (last_line (status_of x))) (takes-plain s t out w) last;
+  kept = (take n (last_line (status_of x)), ap (λ y. y ++ take n (last_line (status_of x))) (sym r));
   missing = drop n (last_line (status_of x));
   replay = append_assoc out (take n (last_line (status_of x))) (drop n (last_line (status_of x))) ∙ ap (λ y. out ++ y) (take-append-drop n (last_line (status_of x))) ∙ ap (λ y. y ++ last_line (status_of x)) r;
 }
@@ -192,6 +213,7 @@ outcome-told halt.Write l m s t u p h =
       halt = p.halt;
       out = p.out;
       written = subst P (append-nil p.out) (Takes-then s t u p.out [] p.written h);
+      kept = p.kept;
       missing = p.missing;
       replay = p.replay;
     }
@@ -200,7 +222,9 @@ outcome-told halt.Memory l m s t u p h = record {
   given = p.given;
   front = p.front;
   is_front = p.is_front;
+  lost = p.lost;
   out = p.out;
+  kept = p.kept;
   written = Takes-then s t u p.out _ (takes-plain s t p.out p.written) h;
   replay = p.replay;
 }

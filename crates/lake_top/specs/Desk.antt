@@ -1,5 +1,5 @@
 -- A desk that answers a script as it comes in.
-use Rattle.std.specs.Prelude.{◌≡◌, ℕ, ◌==◌, Bool, List, [], ◌∷◌, ◌++◌, suc, length, Option, if◌then◌else◌}
+use Rattle.std.specs.Prelude.{◌≡◌, ◌≤◌, ℕ, ◌==◌, Bool, List, [], ◌∷◌, ◌++◌, suc, length, Option, if◌then◌else◌}
 use Rattle.lake_io.specs.Told.{Gives, Takes}
 use Rattle.lake_model.specs.Cuts.{ended_lines, NoFeed}
 use Rattle.lake_model.specs.Lake.{Lake, new_lake}
@@ -86,9 +86,10 @@ pub record TellsSome (lake : Lake) (counts line text : List ℕ) (lake' : Lake) 
   pub lost : List Bool
   pub tells : Tells lake counts line lost text lake' counts'
 
--- the bytes that a source gave, up to where the desk stopped
+-- the bytes of the last piece that a source gave, within which the desk stopped
 pub record StopsOff (stop : Stop) (old : Desk) (left left' taken taken' : Option (List ℕ)) : Type 0 where
   pub bytes : List ℕ
+  pub small : length bytes ≤ 65536
   pub given : Gives left left' bytes
   pub stopped : Stops stop old bytes taken taken'
 

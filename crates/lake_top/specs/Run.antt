@@ -1,5 +1,5 @@
 -- What a run has read of its source and written to its sink.
-use Rattle.std.specs.Prelude.{◌≡◌, ℕ, Bool, true, false, List, [], ◌∷◌, ◌++◌, take, Option, Some, None, codes, ◌⊎◌}
+use Rattle.std.specs.Prelude.{◌≡◌, ◌≤◌, ℕ, Bool, true, false, List, [], ◌∷◌, ◌++◌, length, take, Option, Some, None, codes, ◌⊎◌}
 use Rattle.lake_io.specs.Told.{Gives, IsAtEnd, Takes}
 use Rattle.lake_model.specs.Lake.{new_lake}
 use Rattle.lake_model.specs.Replay.{Line, IsReplay, replay_text}
@@ -35,13 +35,24 @@ abbrev pub IsFront : List ℕ → List ℕ → Option (List ℕ) → Type 0
 IsFront front bytes left' =
     ((back : List ℕ) × (front ++ back ≡ bytes)) ⊎ (IsAtEnd left' × ((back : List ℕ) × (front ++ back ≡ bytes ++ 10 ∷ [])))
 
+-- All lines that ended before the last piece of the input have their replies, written whole: none is held back.
+pub record IsKept (bytes : List ℕ) (lost : List Bool) (out : List ℕ) : Type 0 where
+  pub before : List ℕ
+  pub piece : List ℕ
+  pub is : before ++ piece ≡ bytes
+  pub small : length piece ≤ 65536
+  pub rest : List ℕ
+  pub whole : replay_text new_lake (lines_of before) lost ++ rest ≡ out
+
 -- The run has answered the first lines of the script, and wrote the last line behind their replies.
 pub record AnsweredFront (left left' taken taken' : Option (List ℕ)) (last : List ℕ) : Type 0 where
   pub bytes : List ℕ
   pub given : Gives left left' bytes
   pub front : List ℕ
   pub is_front : IsFront front bytes left'
+  pub lost : List Bool
   pub out : List ℕ
+  pub kept : IsKept bytes lost out
   pub written : Takes taken taken' (out ++ last)
   pub replay : IsReplay new_lake (lines_of front) out
 
@@ -56,6 +67,11 @@ abbrev pub halt_line : Option Halt → List ℕ
 halt_line None = []
 halt_line (Some halt) = last_line (status_of halt)
 
+-- what is written whole where the sink fails: the replies before the last piece, and once the run has halted all replies
+abbrev pub IsDone : Option Halt → List ℕ → List ℕ → List Bool → List ℕ → Type 0
+IsDone None bytes front lost out = IsKept bytes lost out
+IsDone (Some halt) bytes front lost out = (rest : List ℕ) × (replay_text new_lake (lines_of front) lost ++ rest ≡ out)
+
 -- The run was cut short while it wrote: what the sink took stands at the front of the replay of the first lines of
 -- the script, with the last line of a halt behind it.
 pub record IsCutShort (left left' taken taken' : Option (List ℕ)) : Type 0 where
@@ -67,6 +83,7 @@ pub record IsCutShort (left left' taken taken' : Option (List ℕ)) : Type 0 whe
   pub halt : Option Halt
   pub out : List ℕ
   pub written : Takes taken taken' out
+  pub kept : IsDone halt bytes front lost out
   pub missing : List ℕ
   pub replay : out ++ missing ≡ replay_text new_lake (lines_of front) lost ++ halt_line halt
 

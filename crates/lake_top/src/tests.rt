@@ -1,5 +1,5 @@
 use crate::{Status, run};
-use lake_io::{FailList, MemSink, MemSource, SureSink, SureSource};
+use lake_io::{FailList, Failed, MemSink, MemSource, Source, SureSink, SureSource};
 use std::alloc::{AllocError, Global};
 use std::test::Fail;
 
@@ -47,6 +47,29 @@ const SCRIPTS: [(&str, &str); 13] = [
 const USAGE: &str =
     "! usage: lake [--inline 0..1000] [--target 1..1000000] [--gen SEED] [--count 0..20000]\n";
 
+/// A source that gives one byte at a time.
+#[derive(Drop)]
+struct SlowSource {
+    source: SureSource,
+}
+
+impl Source for SlowSource {
+    ghost use Rattle.std.specs.Prelude.{Some};
+
+    ghost left = { λ s. Some s.source.left };
+
+    ghost given = { λ s. s.source.given };
+
+    ghost faults = { λ s. 0 };
+
+    fn read(&mut self, into: &mut [u8]) -> Result<usize, Failed> {
+        let mut one = [0u8; 1];
+        let count = self.source.read(&mut one)?;
+        into[0] = one[0];
+        Ok(count)
+    }
+}
+
 /// So many words of a command line.
 fn words(alloc: Global, count: usize) -> Result<Vec<String>, AllocError> {
     let mut words = Vec::new(alloc);
@@ -69,6 +92,21 @@ fn scripts_are_answered(rt: HostRuntime) -> Result<(), Fail> {
     let words = words(alloc, 1)?;
     for (script, written) in SCRIPTS {
         let mut input = SureSource::new(script.as_bytes().to_vec(alloc)?);
+        let mut output = SureSink::with_room(alloc, 4096)?;
+        let status = run(alloc, words.as_slice(), &mut input, &mut output);
+        assert_eq!(rt; status, Status::Good);
+        assert_eq!(rt; output.bytes(), written.as_bytes());
+    }
+    Ok(())
+}
+
+#[test]
+fn scripts_come_byte_by_byte(rt: HostRuntime) -> Result<(), Fail> {
+    let alloc = rt.alloc();
+    let words = words(alloc, 1)?;
+    for (script, written) in SCRIPTS {
+        let source = SureSource::new(script.as_bytes().to_vec(alloc)?);
+        let mut input = SlowSource { source };
         let mut output = SureSink::with_room(alloc, 4096)?;
         let status = run(alloc, words.as_slice(), &mut input, &mut output);
         assert_eq!(rt; status, Status::Good);

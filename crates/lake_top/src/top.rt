@@ -27,6 +27,7 @@ fn turn<S: Source, O: Sink>(
     piece: &mut [u8],
 ) -> Result<usize, Halt>
     requires room { 0 < length piece.old }
+    requires small { length piece.old ≤ 65536 }
     requires begun { NoFeed desk.old.pending }
     ensures ok { IfOk result (λ n. Moves desk.old desk.new n
         (S.left input.old) (S.left input.new) (O.taken output.old) (O.taken output.new)) }
@@ -93,6 +94,7 @@ fn answer_all<S: Source, O: Sink>(
 ) -> Result<(), Halt>
     requires new { desk.old ≡ new_desk }
     requires room { 0 < length piece.old }
+    requires small { length piece.old ≤ 65536 }
     ensures ok { OnOk result (Answered
         (S.left input.old) (S.left input.new) (O.taken output.old) (O.taken output.new) script_lines []) }
     ensures end { OnOk result (IsAtEnd (S.left input.new)) }
@@ -134,6 +136,7 @@ fn answer_all<S: Source, O: Sink>(
 fn begun(alloc: Global) -> Result<(Desk, Vec<u8>), AllocError>
     ensures desk { IfOk result (λ begun. begun.0 ≡ new_desk) }
     ensures room { IfOk result (λ begun. 0 < length begun.1.items) }
+    ensures small { IfOk result (λ begun. length begun.1.items ≤ 65536) }
 {
     let piece = vec![in alloc; 0; PIECE_BYTES]?;
     Ok((Desk::new(alloc)?, piece))

@@ -1,10 +1,7 @@
-use Rattle.std.proofs.Common.{◌≡◌, ◌≤◌, List, ℕ, [], arith, subst, sym, length-take}
-use Rattle.std.specs.Prelude.{Option}
-use Rattle.lake_model.specs.Cuts.{NoFeed}
+use Rattle.std.proofs.Common.{◌≡◌, arith, subst, sym, length-take}
 use Rattle.lake_top.specs.Desk.{Desk, Moves, new_desk}
 use Rattle.lake_top.specs.Run.{Halts}
 use Rattle.lake_top.specs.declared.halt.Halt.{Halt}
-use Rattle.lake_top.specs.declared.halt.Halt.TheVariants as halt
 use Rattle.lake_top.proofs.RunLemmas.{answered-end, answered-long, answered-read, finish-halts, moves-end, moves-none, moves-then, turn-halts}
 use Rattle.lake_top.proofs.top.answer_all.Goals as goal
 

@@ -1,4 +1,3 @@
-use Rattle.std.proofs.Common.{rules}
 use Rattle.lake_top.proofs.RunLemmas.{outcome-halt, outcome-usage}
 use Rattle.lake_top.proofs.top.run.Goals as goal
 

@@ -1,6 +1,5 @@
-use Rattle.std.proofs.Common.{◌≡◌, List, ℕ, length, ◌≤◌, arith, rules, subst, take, sym, ◌∙◌}
+use Rattle.std.proofs.Common.{◌≡◌, List, ℕ, length, ◌≤◌, arith, rules, subst, take, sym}
 use Rattle.std.proofs.lemmas.List.{take_all}
-use Rattle.lake_model.specs.Cuts.{NoFeed}
 use Rattle.lake_top.specs.Desk.{Answers, line_len}
 use Rattle.lake_top.proofs.DeskLemmas.{answers-hold, answers-line, stops-line, stops-none, line_len-inside, line_len-whole}
 use Rattle.lake_top.proofs.desk.Desk.take_some.Goals as goal
