@@ -1,0 +1,16 @@
+//! The cells of a row as the catalogue keeps them: a row that is inserted inline is one byte string, which spells its
+//! cells by rising field id.
+#![tactic(auto)]
+
+mod decoding;
+mod encoding;
+mod fault;
+pub mod laws;
+mod numbers;
+
+pub use decoding::decode_cells;
+pub use encoding::encode_cells;
+pub use fault::CellsFault;
+
+#[cfg(test)]
+mod tests;
