@@ -10,3 +10,4 @@ pub mod ValueLemmas
 pub mod RoundTripLemmas
 pub mod HeldLemmas
 pub mod LevelLemmas
+pub mod FrontLemmas

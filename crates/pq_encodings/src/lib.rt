@@ -5,6 +5,7 @@
 mod bits;
 mod bools;
 mod fault;
+mod fronts;
 mod indices;
 mod levels;
 mod numbers;
@@ -16,6 +17,7 @@ mod tests;
 mod varint;
 
 pub use fault::EncFault;
+pub use fronts::{indices_before_fault, strings_before_fault};
 pub use indices::decode_indices;
 pub use levels::encode_levels;
 pub use plain::{Physical, Plain, decode_plain, encode_plain};
