@@ -1,0 +1,4 @@
+pub mod AnswerLemmas
+pub mod TextLemmas
+pub mod PickLemmas
+pub mod PageLemmas

@@ -1,0 +1,4 @@
+pub mod Answers
+pub mod Headers
+pub mod Pages
+pub mod Writing
