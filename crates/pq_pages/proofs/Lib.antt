@@ -2,3 +2,5 @@ pub mod AnswerLemmas
 pub mod TextLemmas
 pub mod PickLemmas
 pub mod PageLemmas
+pub mod HeaderBackLemmas
+pub mod ChunkBackLemmas

@@ -1,11 +1,13 @@
 -- The one spelling of a column chunk: one data page, plain and not compressed.
 use Rattle.std.specs.Prelude.{◌≡◌, ◌<◌, ◌^◌, ℕ, ℤ, pos, ◌++◌, if◌then◌else◌, List, [], ◌∷◌, length, All, Bool, true, false}
 use Rattle.std.specs.List.{count_by}
+use Rattle.std.specs.Str.{IsUtf8}
 use Rattle.byteorder.specs.Endian.{little_bytes}
 use Rattle.thrift_compact.specs.declared.types.TheConstants.{I32, STRUCT}
 use Rattle.thrift_compact.specs.Shortest.{field_spelling, signed_spelling}
 use Rattle.pq_encodings.specs.Levels.{level_bytes}
-use Rattle.pq_encodings.specs.Values.{AreShort, count_of, value_bytes}
+use Rattle.pq_encodings.specs.Values.{AreShort, Values, bools, i32s, i64s, strings, count_of, kind_of, value_bytes}
+use Rattle.pq_pages.specs.declared.chunk.ChunkSpec.{ChunkSpec}
 use Rattle.pq_pages.specs.Pages.{Cells}
 
 -- bytes behind their length
@@ -42,3 +44,14 @@ pub record AreWritable (optional : Bool) (cells : Cells) : Type 0 where
   pub short : AreShort cells.values
   pub few : length cells.defined < 2 ^ 31
   pub small : length (body_bytes optional cells) < 2 ^ 31
+
+-- what a footer says of a chunk with these cells
+abbrev pub spec_of : Bool → Bool → Cells → ChunkSpec
+spec_of text optional cells = record { codec = pos 0; kind = kind_of cells.values; optional = optional; num_values = length cells.defined; text = text }
+
+-- each byte string is UTF-8
+abbrev pub AreTexts : Values → Type 0
+AreTexts (bools xs) = Unit {0}
+AreTexts (i32s xs) = Unit {0}
+AreTexts (i64s xs) = Unit {0}
+AreTexts (strings xs) = All (λ x. IsUtf8 x) xs

@@ -6,6 +6,7 @@ mod column;
 mod drafts;
 mod fault;
 mod headers;
+mod laws;
 mod levels;
 mod pages;
 mod picks;
@@ -16,5 +17,7 @@ mod writing;
 
 pub use chunk::{ChunkSpec, RawCells};
 pub use fault::PageFault;
+pub use laws::reads_back;
 pub use reading::read_chunk;
 pub use writing::write_chunk;
+
