@@ -11,3 +11,4 @@ pub mod RoundTripLemmas
 pub mod HeldLemmas
 pub mod LevelLemmas
 pub mod FrontLemmas
+pub mod SizeLemmas

@@ -20,7 +20,7 @@ mod varint;
 pub use fault::EncFault;
 pub use fronts::{indices_before_fault, strings_before_fault};
 pub use indices::decode_indices;
-pub use laws::reads_back;
+pub use laws::{reads_as_asked, reads_back, sizes};
 pub use levels::encode_levels;
 pub use plain::{Physical, Plain, decode_plain, encode_plain};
 pub use runs::decode_levels;

@@ -1,5 +1,5 @@
 -- Faults, handed on.
-use Rattle.std.proofs.Common.{◌≡◌, Result, Err, refl}
+use Rattle.std.proofs.Common.{◌≡◌, Result, Ok, Err, IfOk, refl}
 use Rattle.thrift_compact.specs.Reading.{Read}
 use Rattle.thrift_structs.specs.declared.fault.StructFault.{StructFault}
 use Rattle.thrift_structs.specs.declared.fault.StructFault.TheVariants as struct_fault
@@ -9,7 +9,7 @@ use Rattle.pq_encodings.specs.declared.fault.EncFault.TheVariants as enc
 use Rattle.pq_encodings.specs.Answers.{Fails as ValuesFail}
 use Rattle.pq_pages.specs.declared.fault.PageFault.{PageFault}
 use Rattle.pq_pages.specs.declared.fault.PageFault.TheVariants as fault
-use Rattle.pq_pages.specs.Answers.{Fails, fault_of, fault_of_struct, of_fields, of_values, ◌then◌}
+use Rattle.pq_pages.specs.Answers.{Fails, Gives, fault_of, fault_of_struct, of_fields, of_values, ◌then◌}
 
 -- a fault of the definition is its fault
 pub stands : {A : Type 0} (e : PageFault) (read : Result A PageFault) → read ≡ Err e → Fails e read
@@ -47,3 +47,9 @@ values_fail (enc.LongCell at length) read h = rw h refl
 pub fields_fail : {A : Type 0} (e : StructFault) (read : Read A) → Stops e read → Fails (fault_of_struct e) (of_fields read)
 fields_fail (struct_fault.Thrift f) read h = rw h refl
 fields_fail struct_fault.Memory read h = tt
+
+-- what holds of each value that the definition may give holds of the value that is answered
+pub gives_holds : {A B : Type 0} (view : A → B) (result : Result A PageFault) (read : Result B PageFault) (P : B → Type 0)
+    → ((y : B) → read ≡ Ok y → P y) → Gives view result read → IfOk result (λ x. P (view x))
+gives_holds view (Ok x) read P holds h = holds (view x) h
+gives_holds view (Err e) read P holds h = tt

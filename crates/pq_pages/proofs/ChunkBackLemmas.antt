@@ -1,29 +1,24 @@
 -- A written chunk reads back.
-use Rattle.std.proofs.Common.{◌≡◌, ℕ, ℤ, pos, zero, suc, ◌+◌, ◌-◌, ◌*◌, ◌<◌, ◌≤◌, ◌^◌, nat_eq, nat_lt, ◌||◌, List, [], ◌∷◌, ◌++◌, length, take, drop, map, replicate, Bool, true, false, cond, Option, Some, None, Result, Ok, Err, All, refl, sym, ap, subst, ◌∙◌, append_assoc, zero-add, arith}
+use Rattle.std.proofs.Common.{◌≡◌, ℕ, ℤ, pos, suc, ◌+◌, ◌-◌, ◌*◌, ◌<◌, ◌≤◌, ◌^◌, nat_eq, nat_lt, ◌||◌, List, [], ◌∷◌, ◌++◌, length, drop, map, replicate, Bool, true, false, cond, Option, Some, None, Ok, All, refl, ap, subst, ◌∙◌, append_assoc, arith}
 use Rattle.std.proofs.Math.Seq.{drop-append_seam, take-append_seam}
-use Rattle.std.proofs.lemmas.Bool.{eq-eqb, le-ltb, lt-ltb}
+use Rattle.std.proofs.lemmas.Bool.{eq-eqb, le-ltb}
 use Rattle.std.proofs.lemmas.List.{append-nil, length-append, take_all}
 use Rattle.std.proofs.lemmas.List.Elements.{All-head, All-tail}
 use Rattle.std.proofs.lemmas.Str.{is_utf8-from_IsUtf8}
 use Rattle.std.specs.List.{count_by}
-use Rattle.std.specs.Str.{IsUtf8, is_utf8}
+use Rattle.std.specs.Str.{IsUtf8}
 use Rattle.byteorder.specs.Endian.{little_bytes, little_number}
 use Rattle.byteorder.specs.Numbers.{length-bytes_low_first, little_number-reads_back}
-use Rattle.thrift_structs.specs.Structs.{struct_of}
 use Rattle.pq_encodings.specs.Levels.{level_bytes, level_of}
 use Rattle.pq_encodings.specs.Runs.{levels_in}
-use Rattle.pq_encodings.specs.Values.{AreInRange, AreShort, IsReadAgain, Values, bools, i32s, i64s, strings, count_of, kind_of, value_bytes, values_in}
-use Rattle.pq_encodings.specs.declared.plain.Physical.{Physical}
+use Rattle.pq_encodings.specs.Values.{AreInRange, AreShort, IsReadAgain, Values, bools, i32s, i64s, strings, count_of, kind_of, plain_size, value_bytes, values_in}
 use Rattle.pq_pages.specs.declared.chunk.ChunkSpec.{ChunkSpec}
-use Rattle.pq_pages.specs.declared.fault.PageFault.{PageFault}
 use Rattle.pq_pages.specs.declared.headers.Coding.TheVariants as coding
 use Rattle.pq_pages.specs.declared.headers.Page.TheVariants as page
-use Rattle.pq_pages.specs.declared.headers.PageHeader.{PageHeader}
-use Rattle.pq_pages.specs.Answers.{of_fields, of_values, ◌then◌}
-use Rattle.pq_pages.specs.Headers.{coding_of, data_of, header_of, is_code, no_page, page_field, page_of, runs_coded}
-use Rattle.pq_pages.specs.Pages.{Cells, Chunk, all_texts, are_texts, behind_header, cells_in, chunk_of, data_coding, data_levels, data_page, fits, flags_in, framed, in_page, is_one, is_whole, joined, judged, no_cells, no_values, page_in, page_values, pages_in, plain_before, plain_values, whole, with_cells}
-use Rattle.pq_pages.specs.Writing.{AreTexts, AreWritable, body_bytes, chunk_bytes, frame, header_bytes, spec_of}
-use Rattle.pq_pages.proofs.HeaderBackLemmas.{IntsBack, header_long, page_back, written_data, written_page}
+use Rattle.pq_pages.specs.Headers.{coding_of, data_of, header_of, page_of, runs_coded}
+use Rattle.pq_pages.specs.Pages.{Cells, Chunk, all_texts, are_texts, behind_header, chunk_of, data_coding, data_levels, data_page, fits, flags_in, framed, in_page, is_one, is_whole, joined, judged, no_cells, no_values, page_in, pages_in, plain_before, plain_values, with_cells}
+use Rattle.pq_pages.specs.Writing.{AreTexts, AreWritable, body_bytes, chunk_bytes, frame, spec_of}
+use Rattle.pq_pages.proofs.HeaderBackLemmas.{IntsBack, header_long, page_back, written_page}
 use Rattle.pq_pages.proofs.PageLemmas.{pages_end}
 
 abbrev pub LevelsBack : Type 0
@@ -239,3 +234,14 @@ by_cells ints levels values text optional (flag ∷ flags) vs can fits utf8 =
 pub chunk_back : IntsBack → LevelsBack → ValuesBack → (text optional : Bool) (cells : Cells) → AreWritable optional cells → AreInRange cells.values → (text ≡ true → AreTexts cells.values)
     → chunk_of (spec_of text optional cells) (chunk_bytes optional cells) ≡ Ok cells
 chunk_back ints levels values text optional cells can fits utf8 = by_cells ints levels values text optional cells.defined cells.values can fits utf8
+
+-- ---- How long a page is
+
+pub body_at_most : ((flags : List Bool) → length (level_bytes flags) ≤ 11 * length flags) → ((vs : Values) → length (value_bytes vs) ≡ plain_size vs)
+    → (optional : Bool) (cells : Cells) → length (body_bytes optional cells) ≤ 4 + 11 * length cells.defined + plain_size cells.values
+body_at_most levels values true cells =
+    let flags : List Bool = cells.defined in
+    let size : List ℕ = little_bytes 4 (length (level_bytes flags)) in
+    let four : length size ≡ 4 = length-bytes_low_first 0 4 (length (level_bytes flags)) in
+    omega (arith, length-append (size ++ level_bytes flags) (value_bytes cells.values), length-append size (level_bytes flags), four, levels flags, values cells.values)
+body_at_most levels values false cells = omega (arith, values cells.values)

@@ -1,17 +1,17 @@
 -- A written page header reads back.
-use Rattle.std.proofs.Common.{◌≡◌, ℕ, ℤ, pos, suc, ◌+◌, ◌-◌, ◌<◌, ◌≤◌, ◌^◌, List, [], ◌∷◌, ◌++◌, length, Option, Some, None, Result, Ok, Err, refl, sym, ap, subst, ◌∙◌, append_assoc, arith, FitsSigned}
+use Rattle.std.proofs.Common.{◌≡◌, ℕ, ℤ, pos, suc, ◌-◌, ◌<◌, ◌≤◌, ◌^◌, List, ◌∷◌, ◌++◌, length, Some, None, Ok, refl, ap, ◌∙◌, append_assoc, arith, FitsSigned}
 use Rattle.std.proofs.lemmas.List.{length-append}
 use Rattle.std.specs.Int.{w32}
 use Rattle.std.proofs.lemmas.Int.{fits_signed_from_abs}
-use Rattle.thrift_compact.specs.Reading.{Read, ◌>>=◌, start_of, signed_in, field_header_in, after_value, after_plain}
+use Rattle.thrift_compact.specs.Reading.{Read, start_of, signed_in, field_header_in, after_value, after_plain}
 use Rattle.thrift_compact.specs.Shortest.{field_spelling, signed_spelling}
 use Rattle.thrift_compact.specs.Laws.{ReadsBack}
 use Rattle.thrift_compact.specs.declared.types.TheConstants.{I32, STRUCT}
-use Rattle.thrift_structs.specs.Structs.{count_in, not_negative, struct_in, struct_of}
+use Rattle.thrift_structs.specs.Structs.{count_in, struct_in, struct_of}
 use Rattle.pq_pages.specs.declared.drafts.DataDraft.{DataDraft}
 use Rattle.pq_pages.specs.declared.drafts.PageDraft.{PageDraft}
 use Rattle.pq_pages.specs.Headers.{data_field, no_data, no_page, page_field}
-use Rattle.pq_pages.specs.Writing.{data_header_bytes, header_bytes, int_field}
+use Rattle.pq_pages.specs.Writing.{data_header_bytes, header_bytes}
 
 -- signed numbers of 32 bits read back
 abbrev pub IntsBack : Type 0

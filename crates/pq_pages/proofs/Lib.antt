@@ -4,3 +4,4 @@ pub mod PickLemmas
 pub mod PageLemmas
 pub mod HeaderBackLemmas
 pub mod ChunkBackLemmas
+pub mod FitLemmas

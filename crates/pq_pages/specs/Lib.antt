@@ -2,3 +2,4 @@ pub mod Answers
 pub mod Headers
 pub mod Pages
 pub mod Writing
+pub mod Fitting

@@ -1,9 +1,9 @@
-//! What holds of written chunks. The function's contract is the law.
+//! What holds of written chunks. Each function's contract is a law.
 
-ghost use Rattle.std.specs.Prelude.{◌≡◌, Bool, Ok, true};
-ghost use Rattle.pq_encodings.specs.Values.{AreInRange};
+ghost use Rattle.std.specs.Prelude.{◌≡◌, ◌≤◌, ◌+◌, ◌*◌, Bool, Ok, length, true};
+ghost use Rattle.pq_encodings.specs.Values.{AreInRange, plain_size};
 ghost use Rattle.pq_pages.specs.Pages.{Cells, chunk_of};
-ghost use Rattle.pq_pages.specs.Writing.{AreTexts, AreWritable, chunk_bytes, spec_of};
+ghost use Rattle.pq_pages.specs.Writing.{AreTexts, AreWritable, body_bytes, chunk_bytes, spec_of};
 
 /// What is written for cells is read as these cells.
 pub fn reads_back()
@@ -12,4 +12,11 @@ pub fn reads_back()
 {
     thrift_compact::reads_back();
     pq_encodings::reads_back();
+}
+
+/// How many bytes a written page has at most, behind its header.
+pub fn body_size()
+    ensures { (optional : Bool) (cells : Cells) → length (body_bytes optional cells) ≤ 4 + 11 * length cells.defined + plain_size cells.values }
+{
+    pq_encodings::sizes();
 }
