@@ -3,7 +3,7 @@ use Rattle.std.proofs.Common.{◌≡◌, ℕ, zero, suc, ◌+◌, ◌-◌, ◌*�
 use Rattle.std.specs.Prelude.{replicate}
 use Rattle.std.proofs.Math.Seq.{drop-append-add, drop-append_seam}
 use Rattle.std.proofs.lemmas.Bool.{cases_lt, eq-eqb, le-ltb, lt-ltb}
-use Rattle.std.proofs.lemmas.List.{drop-drop, length-replicate, length-take, take-append-drop}
+use Rattle.std.proofs.lemmas.List.{drop-drop, length-append, length-replicate, length-take, take-append-drop}
 use Rattle.std.proofs.lemmas.List.FromFn.{length-map-range_with_len}
 use Rattle.byteorder.specs.Endian.{little_number}
 use Rattle.pq_encodings.specs.declared.fault.EncFault.{EncFault}
@@ -347,3 +347,17 @@ pub levels_in-of_held : (width : ℕ) (bytes : List ℕ) (count : ℕ) (xs : Lis
 levels_in-of_held width bytes count xs held =
     let read = runs_in-of_held held count 0 (omega arith) in
     rw read refl
+
+-- ---- As many values as are wanted
+
+pub held_count : {width need : ℕ} {bytes values : List ℕ} → HoldsRuns width need bytes values → length values ≡ need
+held_count (none bytes) = refl
+held_count {width = width} (repeated count need header body values is_number some within held rest) =
+    let number : ℕ = little_number (whole_bytes width) body in
+    omega (arith, length-append (replicate count number) values, length-replicate count number, held_count rest, within)
+held_count {width = width} (packed groups need header body values is_number some wanted held rest) =
+    let numbers : List ℕ = packed_numbers width body (min need (8 * groups)) in
+    omega (arith, length-append numbers values, length-packed_numbers width body (min need (8 * groups)), held_count rest)
+
+pub levels_in-count : (width count : ℕ) (bytes xs : List ℕ) → levels_in width bytes count ≡ Ok xs → length xs ≡ count
+levels_in-count width count bytes xs h = held_count (levels_in-held width bytes count xs h)

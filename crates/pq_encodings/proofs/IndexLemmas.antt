@@ -9,7 +9,7 @@ use Rattle.pq_encodings.specs.Answers.{Fails}
 use Rattle.pq_encodings.specs.Indices.{bad_index, checked, indices_in, or_else}
 use Rattle.pq_encodings.specs.Runs.{Reading, Reads, Stops, runs_from, runs_in}
 use Rattle.pq_encodings.specs.Grammar.{HoldsIndices, HoldsRuns}
-use Rattle.pq_encodings.proofs.GrammarLemmas.{all_of-is, holds_nothing, runs_in-held, runs_in-of_held}
+use Rattle.pq_encodings.proofs.GrammarLemmas.{all_of-is, held_count, holds_nothing, runs_in-held, runs_in-of_held}
 use Rattle.pq_encodings.proofs.RunLemmas.{none_wanted}
 
 -- a bad index among the first values is the first one of all
@@ -140,3 +140,11 @@ indices_in-of_held (width ∷ bytes) count size xs held =
           let narrow : nat_lt 32 width ≡ false = le-ltb 32 width (held.0 p) in
           rw (test, filled, narrow, read, all) refl
     ]
+
+held_indices : (count size : ℕ) (bytes xs : List ℕ) → HoldsIndices count size bytes xs → length xs ≡ count
+held_indices count size [] xs held = rw (held.0, held.1) refl
+held_indices count size (width ∷ bytes) xs held = held_count held.1
+
+-- as many as are wanted
+pub indices_in-count : (count size : ℕ) (bytes xs : List ℕ) → indices_in bytes count size ≡ Ok xs → length xs ≡ count
+indices_in-count count size bytes xs h = held_indices count size bytes xs (indices_in-held bytes count size xs h)

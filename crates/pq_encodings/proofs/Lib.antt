@@ -10,3 +10,5 @@ pub mod ValueLemmas
 pub mod RoundTripLemmas
 pub mod HeldLemmas
 pub mod LevelLemmas
+pub mod FrontLemmas
+pub mod SizeLemmas

@@ -24,3 +24,16 @@ indices_in bytes count size =
     else (if nat_eq (length bytes) 0 then Err (fault.Short 0)
     else (if nat_lt 32 (slice_index bytes 0) then Err (fault.BadRun 0)
     else checked size (runs_from (slice_index bytes 0) (drop 1 bytes) count 1)))
+
+-- the first of some indices, up to one that isn't below the size
+abbrev pub below : ℕ → List ℕ → List ℕ
+below size [] = []
+below size (x ∷ xs) = if nat_lt x size then x ∷ below size xs else []
+
+-- of count indices below the size, those before the first fault
+abbrev pub indices_before : List ℕ → ℕ → ℕ → List ℕ
+indices_before bytes count size =
+    if nat_eq count 0 then []
+    else (if nat_eq (length bytes) 0 then []
+    else (if nat_lt 32 (slice_index bytes 0) then []
+    else below size (runs_from (slice_index bytes 0) (drop 1 bytes) count 1).values))

@@ -91,6 +91,15 @@ unfoldable pub strings_at : ℕ → List ℕ → ℕ → Result (List (List ℕ)
 strings_at zero bytes at = Ok []
 strings_at (suc count) bytes at = then_more (string_at bytes at) (strings_at count bytes)
 
+abbrev pub then_before : Result (List ℕ × ℕ) EncFault → (ℕ → List (List ℕ)) → List (List ℕ)
+then_before (Ok x) go = x.0 ∷ go x.1
+then_before (Err e) go = []
+
+-- of so many from a place on, those before the first fault
+unfoldable pub strings_before : ℕ → List ℕ → ℕ → List (List ℕ)
+strings_before zero bytes at = []
+strings_before (suc count) bytes at = then_before (string_at bytes at) (strings_before count bytes)
+
 -- a byte string with its length
 abbrev pub string_bytes : List ℕ → List ℕ
 string_bytes x = little_bytes 4 (length x) ++ x

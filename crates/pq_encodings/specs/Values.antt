@@ -1,6 +1,7 @@
 -- The plain values of a column as contracts compare them, and what bytes they have.
-use Rattle.std.specs.Prelude.{◌≡◌, ◌≤◌, ◌<◌, ◌*◌, ◌++◌, ℕ, ℤ, List, All, FitsSigned, Bool, length, Result, Ok, Err}
+use Rattle.std.specs.Prelude.{◌≡◌, ◌≤◌, ◌<◌, ◌+◌, ◌*◌, ◌/◌, ◌++◌, ℕ, ℤ, List, All, FitsSigned, Bool, length, Result, Ok, Err}
 use Rattle.std.specs.Int.{w32, w64}
+use Rattle.std.specs.List.{sum_by}
 use Rattle.pq_encodings.specs.declared.fault.EncFault.{EncFault}
 use Rattle.pq_encodings.specs.declared.plain.Physical.{Physical}
 use Rattle.pq_encodings.specs.declared.plain.Physical.TheVariants as physical
@@ -52,6 +53,13 @@ value_bytes (bools xs) = bool_bytes xs
 value_bytes (i32s xs) = i32_bytes xs
 value_bytes (i64s xs) = i64_bytes xs
 value_bytes (strings xs) = strings_bytes xs
+
+-- how many bytes that is
+abbrev pub plain_size : Values → ℕ
+plain_size (bools xs) = (length xs + 7) / 8
+plain_size (i32s xs) = 4 * length xs
+plain_size (i64s xs) = 8 * length xs
+plain_size (strings xs) = sum_by (λ x. 4 + length x) xs
 
 -- each byte string has at most 16,777,216 bytes
 abbrev pub AreShort : Values → Type 0

@@ -5,7 +5,9 @@
 mod bits;
 mod bools;
 mod fault;
+mod fronts;
 mod indices;
+mod laws;
 mod levels;
 mod numbers;
 mod plain;
@@ -16,7 +18,9 @@ mod tests;
 mod varint;
 
 pub use fault::EncFault;
+pub use fronts::{indices_before_fault, strings_before_fault};
 pub use indices::decode_indices;
+pub use laws::{reads_as_asked, reads_back, sizes};
 pub use levels::encode_levels;
 pub use plain::{Physical, Plain, decode_plain, encode_plain};
 pub use runs::decode_levels;

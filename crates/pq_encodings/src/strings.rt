@@ -48,7 +48,7 @@ impl ByteLists {
 }
 
 /// The byte string at a place, and where it ends.
-fn string_at(alloc: Global, bytes: &[u8], at: usize) -> Result<(Vec<u8>, usize), EncFault>
+pub fn string_at(alloc: Global, bytes: &[u8], at: usize) -> Result<(Vec<u8>, usize), EncFault>
     requires { at ≤ length bytes.now }
     ensures string { Gives (λ x. (x.0.items, x.1)) result (spec.string_at bytes.now at) }
     ensures within { IfOk result (λ x. x.1 ≤ length bytes.now) }

@@ -1,4 +1,4 @@
-ghost use Rattle.std.specs.Prelude.{◌≡◌, ◌^◌, length};
+ghost use Rattle.std.specs.Prelude.{◌≡◌, ◌^◌, ◌≤◌, drop, length, take};
 ghost use Rattle.thrift_compact.specs.Spelling.{IsSigned, IsByte, IsBinary, IsListHeader, IsFieldHeader};
 ghost use Rattle.thrift_compact.specs.Trees.{IsValue};
 ghost use Rattle.thrift_compact.specs.Reading.{signed_in, byte_in, binary_in, list_header_in, begins_list_of, field_header_in, after_value};
@@ -152,5 +152,17 @@ impl<'a> Reader<'a> {
     {
         self.rest = skip_value(self.end, MAX_DEPTH, ty, self.rest)?;
         Ok(())
+    }
+
+    /// Passes over the next bytes, which are no items, and answers them.
+    pub fn pass(&mut self, count: usize) -> &'a [u8]
+        requires { count ≤ length self.old.rest }
+        ensures passed { result.now ≡ take count self.old.rest }
+        ensures left { self.new.rest ≡ drop count self.old.rest }
+        ensures end { end_of self.new ≡ end_of self.old }
+    {
+        let (passed, rest) = self.rest.split_at(count);
+        self.rest = rest;
+        passed
     }
 }

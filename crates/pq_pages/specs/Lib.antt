@@ -1,0 +1,5 @@
+pub mod Answers
+pub mod Headers
+pub mod Pages
+pub mod Writing
+pub mod Fitting

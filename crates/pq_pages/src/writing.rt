@@ -1,0 +1,99 @@
+//! A column chunk, written.
+
+ghost use Rattle.std.specs.Prelude.{◌≡◌, ◌<◌, ◌<ℤ◌, ◌^◌, ◌+◌, ◌++◌, ℤ, pos, length, IfOk, OnOk};
+ghost use Rattle.pq_encodings.specs.Levels.{level_bytes};
+ghost use Rattle.pq_encodings.specs.Values.{AreShort, value_bytes, values_of};
+ghost use Rattle.pq_pages.specs.Pages.{cells_of};
+ghost use Rattle.pq_pages.specs.Writing.{AreWritable, body_bytes, chunk_bytes, data_header_bytes, frame, header_bytes, int_field};
+
+use crate::chunk::RawCells;
+use byteorder::{ByteOrder, LittleEndian};
+use pq_encodings::{Plain, encode_levels, encode_plain};
+use std::alloc::{AllocError, Global};
+use thrift_compact::Writer;
+use thrift_compact::types::{I32, STRUCT};
+
+/// Writes a field of 32 bits behind the field `last`.
+fn put_int(writer: &mut Writer, last: i16, id: i16, value: u32) -> Result<(), AllocError>
+    requires { last <ℤ id }
+    ensures { OnOk result (writer.new ≡ writer.old ++ int_field last id (pos value)) }
+{
+    writer.put_header(last, id, I32)?;
+    writer.put_i64(i64::from(value))
+}
+
+/// Writes the header inside a page's header.
+fn put_data_header(writer: &mut Writer, count: u32) -> Result<(), AllocError>
+    ensures { OnOk result (writer.new ≡ writer.old ++ data_header_bytes count) }
+{
+    put_int(writer, 0, 1, count)?;
+    put_int(writer, 1, 2, 0)?;
+    put_int(writer, 2, 3, 3)?;
+    put_int(writer, 3, 4, 3)?;
+    writer.put_stop()
+}
+
+/// The page's header.
+fn page_header(alloc: Global, size: u32, count: u32) -> Result<Vec<u8>, AllocError>
+    ensures { IfOk result (λ v. v.items ≡ header_bytes size count) }
+{
+    let mut writer = Writer::new(alloc);
+    put_int(&mut writer, 0, 1, 0)?;
+    put_int(&mut writer, 1, 2, size)?;
+    put_int(&mut writer, 2, 3, size)?;
+    writer.put_header(3, 5, STRUCT)?;
+    put_data_header(&mut writer, count)?;
+    writer.put_stop()?;
+    Ok(writer.finish())
+}
+
+/// Appends bytes behind their length.
+fn push_framed(out: &mut Vec<u8>, bytes: &[u8]) -> Result<(), AllocError>
+    requires { length bytes.now < 2 ^ 32 }
+    ensures { OnOk result (out.new.items ≡ out.old.items ++ frame bytes.now) }
+{
+    let mut size = [0u8; 4];
+    LittleEndian::write_u32(&mut size, bytes.len() as u32);
+    out.extend_from_slice(&size)?;
+    out.extend_from_slice(bytes)
+}
+
+fn level_bytes(alloc: Global, flags: &[bool]) -> Result<Vec<u8>, AllocError>
+    ensures { IfOk result (λ v. v.items ≡ level_bytes flags.now) }
+{
+    encode_levels(alloc, flags)
+}
+
+fn value_bytes(alloc: Global, values: &Plain) -> Result<Vec<u8>, AllocError>
+    requires { AreShort (values_of values.now) }
+    ensures { IfOk result (λ v. v.items ≡ value_bytes (values_of values.now)) }
+{
+    encode_plain(alloc, values)
+}
+
+/// The page behind its header.
+fn page_body(alloc: Global, cells: &RawCells, optional: bool) -> Result<Vec<u8>, AllocError>
+    requires { AreWritable optional (cells_of cells.now) }
+    ensures { IfOk result (λ v. v.items ≡ body_bytes optional (cells_of cells.now)) }
+{
+    let values = value_bytes(alloc, &cells.plain)?;
+    if !optional {
+        return Ok(values);
+    }
+    let levels = level_bytes(alloc, cells.defined.as_slice())?;
+    let mut body = Vec::new(alloc);
+    push_framed(&mut body, levels.as_slice())?;
+    body.extend_from_slice(values.as_slice())?;
+    Ok(body)
+}
+
+/// The bytes of a chunk with these cells: one data page, plain and not compressed.
+pub fn write_chunk(alloc: Global, cells: &RawCells, optional: bool) -> Result<Vec<u8>, AllocError>
+    requires { AreWritable optional (cells_of cells.now) }
+    ensures spelled { IfOk result (λ v. v.items ≡ chunk_bytes optional (cells_of cells.now)) }
+{
+    let body = page_body(alloc, cells, optional)?;
+    let mut chunk = page_header(alloc, body.len() as u32, cells.defined.len() as u32)?;
+    chunk.extend_from_slice(body.as_slice())?;
+    Ok(chunk)
+}
