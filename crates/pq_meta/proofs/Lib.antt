@@ -1,0 +1,4 @@
+pub mod NameLemmas
+pub mod EachLemmas
+pub mod ColumnLemmas
+pub mod SpellingLemmas
