@@ -1,11 +1,13 @@
 -- Pieces that are appended one after the other.
-use Rattle.std.proofs.Common.{◌≡◌, ℕ, ◌+◌, ◌<◌, ◌≤◌, List, [], ◌∷◌, ◌++◌, length, drop, get_or, refl, sym, ap, ◌∙◌, append_assoc, add-one, drop-cons, arith}
+use Rattle.std.proofs.Common.{◌≡◌, ℕ, ◌+◌, ◌<◌, ◌≤◌, List, [], ◌∷◌, ◌++◌, length, drop, take, get_or, refl, sym, ap, ◌∙◌, append_assoc, add-one, drop-cons, arith}
+use Rattle.std.specs.Prelude.{All}
 use Rattle.std.specs.List.{flat_map}
-use Rattle.std.proofs.lemmas.List.{append-nil}
+use Rattle.std.proofs.lemmas.List.Elements.{All-more}
+use Rattle.std.proofs.lemmas.List.{append-nil, take_all}
 use Rattle.std.proofs.Math.Seq.{drop-length}
 use Rattle.pq_meta.specs.declared.meta.MetaColumn.{MetaColumn}
 use Rattle.pq_meta.specs.declared.meta.MetaChunk.{MetaChunk}
-use Rattle.pq_meta.specs.Spelling.{chunk_bytes, chunks_bytes}
+use Rattle.pq_meta.specs.Spelling.{chunk_bytes, chunks_bytes, HasText}
 
 pub ruleset pieces = (append_assoc)
 
@@ -22,6 +24,14 @@ row_ends spell items out total so_far =
     sym one ∙ so_far
 
 pub ruleset rows = (row_goes_on, row_ends)
+
+-- the names that were written are texts
+pub texts_more : (columns : List MetaColumn) (i : ℕ) (column : MetaColumn) → i < length columns → column ≡ get_or columns i column → HasText column
+    → All HasText (take i columns) → All HasText (take (i + 1) columns)
+texts_more columns i column lt is text so_far = All-more HasText columns i column lt so_far (rw (← is) text)
+
+pub texts_end : (columns : List MetaColumn) (i : ℕ) → length columns ≤ i → All HasText (take i columns) → All HasText columns
+texts_end columns i le texts = rw (take_all i columns le) at texts
 
 -- the same of a loop over columns with their chunks
 pub chunk_goes_on : (columns : List MetaColumn) (chunks : List MetaChunk) (i : ℕ) (column : MetaColumn) (chunk : MetaChunk) (out now total : List ℕ)

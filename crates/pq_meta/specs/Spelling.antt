@@ -1,6 +1,7 @@
 -- The one spelling of a footer that is written: the fields of each struct by rising id, each in its shortest spelling.
 use Rattle.std.specs.Prelude.{◌≡◌, ◌≢◌, ℕ, ℤ, pos, ◌+◌, ◌^◌, ◌<◌, ◌≤◌, ◌⊎◌, List, [], ◌∷◌, ◌++◌, length, codes, sum_by, All, AllPairs, IfSome, Option, Some, None, Bool, true, false}
 use Rattle.std.specs.List.{flat_map}
+use Rattle.std.specs.Str.{IsUtf8}
 use Rattle.lake_types.specs.declared.value.ColType.{ColType}
 use Rattle.lake_types.specs.declared.value.ColType.TheVariants as ty
 use Rattle.thrift_compact.specs.declared.types.TheConstants.{I32, I64, BINARY, LIST, STRUCT}
@@ -160,6 +161,10 @@ footer_bytes meta =
 pub record IsColumn (column : MetaColumn) : Type 0 where
   pub name : length column.name ≤ 255
   pub field : IfSome column.field (λ id. id ≤ 2147483647)
+
+-- a name is a text
+abbrev pub HasText : MetaColumn → Type 0
+HasText column = IsUtf8 column.name
 
 -- two columns are not known by the same field id
 abbrev pub OtherField : MetaColumn → MetaColumn → Type 0

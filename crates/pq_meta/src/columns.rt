@@ -153,10 +153,9 @@ fn field_of(earlier: &[MetaColumn], field: Option<i32>) -> Option<u32>
     }
     let id = field as u32;
     if has_field(earlier, id) {
-        None
-    } else {
-        Some(id)
+        return None;
     }
+    Some(id)
 }
 
 /// Whether a column has this field id.
@@ -260,10 +259,8 @@ pub fn columns_of(alloc: Global, schema: &[ElementDraft]) -> Result<Listed<MetaC
         Ok(columns) => columns,
         Err(fault) => return Err(fault),
     };
-    match check_count(
-        u64::from(root.num_children.unwrap_or(0)),
-        elements.len() as u64,
-    ) {
+    let stated = root.num_children.unwrap_or(0);
+    match check_count(u64::from(stated), elements.len() as u64) {
         Ok(()) => Ok(columns),
         Err(fault) => Err(fault),
     }

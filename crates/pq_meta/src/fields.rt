@@ -219,9 +219,9 @@ impl<'a> Parts<'a> for GroupDraft {
         ty: u8,
     ) -> Result<(), StructFault> {
         match (id, ty) {
-            (1, LIST) if reader.is_list_of(STRUCT) => self.chunks = Some(read_structs(
-                alloc, reader,
-            )?),
+            (1, LIST) if reader.is_list_of(STRUCT) => {
+                self.chunks = Some(read_structs(alloc, reader)?);
+            }
             (3, I64) => self.rows = Some(read_long_count(reader)?),
             _ => pass_field(reader, ty)?,
         }
@@ -255,13 +255,13 @@ impl<'a> Parts<'a> for FooterDraft<'a> {
     ) -> Result<(), StructFault> {
         match (id, ty) {
             (1, I32) => self.version = Some(read_int(reader)?),
-            (2, LIST) if reader.is_list_of(STRUCT) => self.schema = Some(read_structs(
-                alloc, reader,
-            )?),
+            (2, LIST) if reader.is_list_of(STRUCT) => {
+                self.schema = Some(read_structs(alloc, reader)?);
+            }
             (3, I64) => self.num_rows = Some(read_long_count(reader)?),
-            (4, LIST) if reader.is_list_of(STRUCT) => self.groups = Some(read_structs(
-                alloc, reader,
-            )?),
+            (4, LIST) if reader.is_list_of(STRUCT) => {
+                self.groups = Some(read_structs(alloc, reader)?);
+            }
             _ => pass_field(reader, ty)?,
         }
         Ok(())

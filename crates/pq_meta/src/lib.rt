@@ -12,11 +12,13 @@ mod drafts;
 mod fault;
 mod fields;
 mod groups;
+mod laws;
 mod meta;
 mod reading;
 mod writing;
 
 pub use fault::MetaFault;
+pub use laws::reads_back;
 pub use meta::{FileMeta, MetaChunk, MetaColumn, MetaGroup};
 pub use reading::read_meta;
 pub use writing::write_meta;

@@ -1,9 +1,10 @@
 //! Writing a footer: the fields of each struct by rising id, each in its shortest spelling.
 
 ghost use Rattle.std.specs.Prelude.{◌≡◌, ◌+◌, ◌^◌, ◌<◌, ◌≤◌, ◌<ℤ◌, ◌++◌, pos, All, AllPairs, IfOk, IfSome, OnOk, length, sum_by};
+ghost use Rattle.pq_meta.specs.Footers.{footer_of};
 ghost use Rattle.pq_meta.specs.Spelling as spec;
 ghost use Rattle.std.specs.List.{flat_map};
-ghost use Rattle.pq_meta.specs.Spelling.{IsColumn, IsExtent, IsGroup, IsWritable};
+ghost use Rattle.pq_meta.specs.Spelling.{HasText, IsColumn, IsExtent, IsGroup, IsWritable};
 
 use crate::codes::*;
 use crate::meta::{FileMeta, MetaChunk, MetaColumn, MetaGroup};
@@ -125,7 +126,8 @@ fn put_type(writer: &mut Writer, converted: Option<i32>, field: Option<u32>) -> 
 #[tactic(auto, using(crate::proofs::SpellingLemmas::pieces), unfolding(crate::specs::Spelling::column_bytes))]
 fn put_column(writer: &mut Writer, column: &MetaColumn) -> Result<(), NoMemory>
     requires { IsColumn column.now }
-    ensures { OnOk result (writer.new ≡ writer.old ++ spec.column_bytes column.now) }
+    ensures bytes { OnOk result (writer.new ≡ writer.old ++ spec.column_bytes column.now) }
+    ensures text { OnOk result (HasText column.now) }
 {
     put_int(writer, 0, 1, physical_of(column.ty))?;
     put_int(writer, 1, 3, repetition_of(column.optional))?;
@@ -147,7 +149,8 @@ fn put_root(writer: &mut Writer, columns: usize) -> Result<(), NoMemory>
 #[tactic(auto, using(crate::proofs::SpellingLemmas::rows))]
 fn put_columns(writer: &mut Writer, columns: &[MetaColumn]) -> Result<(), NoMemory>
     requires { All IsColumn columns.now }
-    ensures { OnOk result (writer.new ≡ writer.old ++ flat_map spec.column_bytes columns.now) }
+    ensures bytes { OnOk result (writer.new ≡ writer.old ++ flat_map spec.column_bytes columns.now) }
+    ensures text { OnOk result (All HasText columns.now) }
 {
     for column in columns {
         put_column(writer, column)?;
@@ -279,7 +282,8 @@ fn put_groups(
 fn put_schema(writer: &mut Writer, columns: &[MetaColumn]) -> Result<(), NoMemory>
     requires columns { All IsColumn columns.now }
     requires few { length columns.now ≤ 101 }
-    ensures { OnOk result (writer.new ≡ writer.old ++ spec.schema_bytes columns.now) }
+    ensures bytes { OnOk result (writer.new ≡ writer.old ++ spec.schema_bytes columns.now) }
+    ensures text { OnOk result (All HasText columns.now) }
 {
     put_int(writer, 0, 1, VERSION)?;
     put_list(writer, 1, 2, STRUCT, columns.len() as u32 + 1)?;
@@ -287,19 +291,29 @@ fn put_schema(writer: &mut Writer, columns: &[MetaColumn]) -> Result<(), NoMemor
     put_columns(writer, columns)
 }
 
-/// Writes a footer in its one spelling: [`read_meta`](crate::read_meta) gives it back.
 #[tactic(auto, using(crate::proofs::SpellingLemmas::pieces), unfolding(crate::specs::Spelling::footer_bytes))]
-pub fn write_meta(alloc: Global, meta: &FileMeta) -> Result<Vec<u8>, NoMemory>
+fn put_footer(writer: &mut Writer, meta: &FileMeta) -> Result<(), NoMemory>
     requires { IsWritable meta.now }
-    ensures { IfOk result (λ bytes. bytes.items ≡ spec.footer_bytes meta.now) }
+    ensures bytes { OnOk result (writer.new ≡ writer.old ++ spec.footer_bytes meta.now) }
+    ensures text { OnOk result (All HasText meta.now.columns) }
 {
     let columns = meta.columns.as_slice();
     let groups = meta.groups.as_slice();
+    put_schema(writer, columns)?;
+    put_long(writer, 2, 3, meta.num_rows)?;
+    put_list(writer, 3, 4, STRUCT, groups.len() as u32)?;
+    put_groups(writer, columns, groups)?;
+    writer.put_stop()
+}
+
+/// Writes a footer in its one spelling. [`read_meta`](crate::read_meta) gives it back.
+#[tactic(auto, using(crate::proofs::RoundTripLemmas::written_back))]
+pub fn write_meta(alloc: Global, meta: &FileMeta) -> Result<Vec<u8>, NoMemory>
+    requires { IsWritable meta.now }
+    ensures bytes { IfOk result (λ bytes. bytes.items ≡ spec.footer_bytes meta.now) }
+    ensures back { IfOk result (λ bytes. footer_of bytes.items ≡ Ok meta.now) }
+{
     let mut writer = Writer::new(alloc);
-    put_schema(&mut writer, columns)?;
-    put_long(&mut writer, 2, 3, meta.num_rows)?;
-    put_list(&mut writer, 3, 4, STRUCT, groups.len() as u32)?;
-    put_groups(&mut writer, columns, groups)?;
-    writer.put_stop()?;
+    put_footer(&mut writer, meta)?;
     Ok(writer.finish())
 }
