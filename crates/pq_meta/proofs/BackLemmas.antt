@@ -1,8 +1,7 @@
 -- The drafts of what is written say what was written.
-use Rattle.std.proofs.Common.{◌≡◌, ◌≢◌, ℕ, ℤ, pos, negsuc, ◌+◌, ◌-◌, ◌≤◌, ◌<◌, ◌^◌, ◌⊎◌, inl, inr, zero, suc, List, [], ◌∷◌, ◌++◌, length, map, Option, Some, None, Result, Ok, Err, Bool, true, false, refl, sym, ap, ◌∙◌, append_assoc, arith, get_or, eq-eqb, lit<, length-append}
-use Rattle.std.specs.Prelude.{All, AllPairs, codes, min, sum_by, ◌==◌}
+use Rattle.std.proofs.Common.{◌≡◌, ◌≢◌, ℕ, ◌<◌, ◌^◌, ◌⊎◌, inl, inr, zero, suc, List, [], ◌∷◌, ◌++◌, length, map, Option, Some, None, Ok, Bool, true, false, refl, sym, ap, ◌∙◌, append_assoc, arith, get_or, eq-eqb, lit<, length-append}
+use Rattle.std.specs.Prelude.{All, AllPairs, codes, sum_by}
 use Rattle.std.specs.Str.{IsAscii, IsUtf8, is_utf8}
-use Rattle.std.specs.List.{list_any}
 use Rattle.std.proofs.lemmas.Str.{IsUtf8-from_ascii, is_utf8-from_IsUtf8}
 use Rattle.std.proofs.lemmas.List.{append-nil, get_or_append_left}
 use Rattle.std.proofs.Math.Seq.{get_or-append_seam}
@@ -10,17 +9,11 @@ use Rattle.std.proofs.lemmas.List.Elements.{All-tail}
 use Rattle.std.proofs.lemmas.List.Folds.{list_any_none}
 use Rattle.lake_types.specs.declared.value.ColType.{ColType}
 use Rattle.lake_types.specs.declared.value.ColType.TheVariants as ty
-use Rattle.pq_meta.specs.declared.drafts.ElementDraft.{ElementDraft}
-use Rattle.pq_meta.specs.declared.drafts.FooterDraft.{FooterDraft}
-use Rattle.pq_meta.specs.declared.drafts.GroupDraft.{GroupDraft}
-use Rattle.pq_meta.specs.declared.drafts.ChunkDraft.{ChunkDraft}
-use Rattle.pq_meta.specs.declared.fault.MetaFault.{MetaFault}
-use Rattle.pq_meta.specs.declared.meta.FileMeta.{FileMeta}
 use Rattle.pq_meta.specs.declared.meta.MetaColumn.{MetaColumn}
 use Rattle.pq_meta.specs.declared.meta.MetaGroup.{MetaGroup}
 use Rattle.pq_meta.specs.declared.meta.MetaChunk.{MetaChunk}
-use Rattle.pq_meta.specs.Checks.{◌then◌, need, counted, each}
-use Rattle.pq_meta.specs.Columns.{meaning_of, meaning_of_converted, type_of, name_of, optional_of, is_field_of, has_field, field_of, leaf_of, column_of, columns_behind, columns_of}
+use Rattle.pq_meta.specs.Checks.{counted, each}
+use Rattle.pq_meta.specs.Columns.{meaning_of, meaning_of_converted, type_of, optional_of, is_field_of, has_field, field_of, leaf_of, column_of, columns_behind, columns_of}
 use Rattle.pq_meta.specs.Groups.{described_of, chunk_of, group_of, rows_of}
 use Rattle.pq_meta.specs.Spelling.{physical_of, converted_of, repetition_of, HasText, OtherField, IsPlainChunk, IsGroup}
 use Rattle.pq_meta.proofs.WrittenLemmas.{id_of, element_of, root_of, chunk_draft_of, chunk_drafts_of, group_draft_of}

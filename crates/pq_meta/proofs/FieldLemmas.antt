@@ -1,13 +1,13 @@
 -- Fields that are written one after the other are read back.
-use Rattle.std.proofs.Common.{◌≡◌, ℕ, ℤ, pos, ◌+◌, ◌≤◌, ◌<◌, ◌^◌, ◌<ℤ◌, zero, suc, List, [], ◌∷◌, ◌++◌, length, map, Option, Some, None, Result, Ok, Err, Bool, true, false, refl, sym, ap, ◌∙◌, append_assoc, arith, length-append, ltb, inl, inr, ◌+ℤ◌, ◌-ℤ◌, ◌*◌}
-use Rattle.std.specs.Prelude.{FitsSigned, nat_lt, if◌then◌else◌, int_le, unsigned_abs, All}
-use Rattle.std.specs.Int.{w16, w32, w64}
+use Rattle.std.proofs.Common.{◌≡◌, ℕ, ℤ, pos, ◌+◌, ◌≤◌, ◌<◌, ◌^◌, ◌<ℤ◌, zero, suc, List, [], ◌∷◌, ◌++◌, length, map, Ok, true, false, refl, ap, ◌∙◌, append_assoc, arith, length-append, inl, inr, ◌+ℤ◌, ◌-ℤ◌, ◌*◌}
+use Rattle.std.specs.Prelude.{FitsSigned, if◌then◌else◌, int_le, unsigned_abs, All}
+use Rattle.std.specs.Int.{w16}
 use Rattle.std.specs.List.{flat_map}
 use Rattle.std.proofs.lemmas.Int.{ints}
 use Rattle.std.proofs.lemmas.Bool.{le-ltb, lt-ltb, cases_lt}
 use Rattle.std.proofs.lemmas.List.Elements.{All-tail}
 use Rattle.thrift_compact.specs.Spelling.{IsType}
-use Rattle.thrift_compact.specs.Reading.{Read, ◌>>=◌, start_of, field_header_in, begins_list_of}
+use Rattle.thrift_compact.specs.Reading.{Read, start_of, begins_list_of}
 use Rattle.thrift_compact.specs.Shortest.{field_spelling, list_spelling, signed_spelling}
 use Rattle.thrift_compact.proofs.LawLemmas.{field_header_back, list_header_back, stop_back}
 use Rattle.thrift_structs.specs.Structs.{struct_in, struct_of, row_in, structs_of}

@@ -6,3 +6,4 @@ pub mod FieldLemmas
 pub mod WrittenLemmas
 pub mod BackLemmas
 pub mod RoundTripLemmas
+pub mod KnownLemmas

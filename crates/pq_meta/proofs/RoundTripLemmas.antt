@@ -17,7 +17,7 @@ use Rattle.pq_meta.specs.declared.meta.MetaColumn.{MetaColumn}
 use Rattle.pq_meta.specs.Drafts.{element_part, no_element, group_part, no_group, footer_part, no_footer}
 use Rattle.pq_meta.specs.Footers.{meta_of, footer_of}
 use Rattle.pq_meta.specs.Spelling.{stop, column_bytes, root_bytes, group_bytes, schema_bytes, footer_bytes, HasText, IsColumn, IsWritable}
-use Rattle.pq_meta.proofs.FieldLemmas.{ReadsFields, ReadsValue, ReadsItem, field_then, regrouped_read, stop_read, struct_read, structs_read, row_read, row_cons, begins_list}
+use Rattle.pq_meta.proofs.FieldLemmas.{ReadsFields, ReadsValue, field_then, regrouped_read, stop_read, struct_read, structs_read, row_read, row_cons, begins_list}
 use Rattle.pq_meta.proofs.WrittenLemmas.{list_regrouped, count_back_64, element_of, root_of, group_draft_of, column_read, root_read, group_read}
 use Rattle.pq_meta.proofs.BackLemmas.{columns_back, groups_back, rows_back}
 

@@ -1,28 +1,25 @@
 -- What is written of each struct is read as a draft that says the same.
-use Rattle.std.proofs.Common.{◌≡◌, ℕ, ℤ, pos, negsuc, ◌+◌, ◌≤◌, ◌<◌, ◌^◌, ◌<ℤ◌, zero, suc, List, [], ◌∷◌, ◌++◌, length, map, Option, Some, None, Result, Ok, Err, Bool, true, false, refl, sym, ap, ◌∙◌, append_assoc, arith, lit<}
-use Rattle.std.specs.Prelude.{FitsSigned, All, IfSome, codes, nat_lt, if◌then◌else◌}
-use Rattle.std.specs.Int.{w16, w32, w64}
-use Rattle.std.specs.List.{flat_map}
+use Rattle.std.proofs.Common.{◌≡◌, ℕ, ℤ, pos, ◌≤◌, ◌<◌, ◌^◌, List, [], ◌∷◌, ◌++◌, length, Option, Some, None, Ok, Bool, true, false, refl, sym, ap, ◌∙◌, append_assoc, arith, lit<}
+use Rattle.std.specs.Prelude.{FitsSigned, All, IfSome, codes}
+use Rattle.std.specs.Int.{w32, w64}
 use Rattle.std.proofs.lemmas.Int.{ints}
 use Rattle.std.proofs.lemmas.List.Elements.{All-tail}
 use Rattle.lake_types.specs.declared.value.ColType.{ColType}
 use Rattle.lake_types.specs.declared.value.ColType.TheVariants as ty
-use Rattle.thrift_compact.specs.Reading.{Read, start_of, signed_in, unsigned_in, number_in, binary_in, list_header_in, after_value, after_nested, after_each, after_element, after_plain, begins_list_of}
+use Rattle.thrift_compact.specs.Reading.{start_of, signed_in, unsigned_in, number_in, list_header_in, after_value, after_nested, after_each, after_element, after_plain}
 use Rattle.thrift_compact.specs.Shortest.{field_spelling, list_spelling, signed_spelling, number_spelling, binary_spelling}
 use Rattle.thrift_compact.proofs.LawLemmas.{i32_back, i64_back, binary_back}
-use Rattle.thrift_structs.specs.Structs.{count_in, struct_of, structs_of, row_in}
-use Rattle.pq_meta.specs.declared.drafts.FooterDraft.{FooterDraft}
+use Rattle.thrift_structs.specs.Structs.{count_in, struct_of, row_in}
 use Rattle.pq_meta.specs.declared.drafts.ElementDraft.{ElementDraft}
 use Rattle.pq_meta.specs.declared.drafts.GroupDraft.{GroupDraft}
 use Rattle.pq_meta.specs.declared.drafts.ChunkDraft.{ChunkDraft}
 use Rattle.pq_meta.specs.declared.drafts.ChunkMetaDraft.{ChunkMetaDraft}
-use Rattle.pq_meta.specs.declared.meta.FileMeta.{FileMeta}
 use Rattle.pq_meta.specs.declared.meta.MetaColumn.{MetaColumn}
 use Rattle.pq_meta.specs.declared.meta.MetaGroup.{MetaGroup}
 use Rattle.pq_meta.specs.declared.meta.MetaChunk.{MetaChunk}
-use Rattle.pq_meta.specs.Drafts.{element_part, no_element, chunk_meta_part, no_chunk_meta, chunk_part, no_chunk, group_part, no_group, footer_part, no_footer}
-use Rattle.pq_meta.specs.Spelling.{stop, id_bytes, type_bytes, column_bytes, root_bytes, encodings_bytes, path_bytes, extent_bytes, chunk_meta_bytes, chunk_bytes, chunks_bytes, group_bytes, schema_bytes, footer_bytes, total_of, physical_of, converted_of, repetition_of, IsColumn, IsExtent, IsGroup, IsPlainChunk}
-use Rattle.pq_meta.proofs.FieldLemmas.{ReadsFields, ReadsValue, field_then, regrouped_read, stop_read, struct_read, structs_read, row_read, row_cons, row_nil, begins_list}
+use Rattle.pq_meta.specs.Drafts.{element_part, no_element, chunk_meta_part, no_chunk_meta, chunk_part, no_chunk, group_part, no_group}
+use Rattle.pq_meta.specs.Spelling.{stop, id_bytes, type_bytes, column_bytes, root_bytes, encodings_bytes, path_bytes, extent_bytes, chunk_meta_bytes, chunk_bytes, chunks_bytes, group_bytes, total_of, physical_of, converted_of, repetition_of, IsColumn, IsExtent, IsGroup, IsPlainChunk}
+use Rattle.pq_meta.proofs.FieldLemmas.{ReadsFields, ReadsValue, field_then, regrouped_read, stop_read, struct_read, structs_read, row_cons, row_nil, begins_list}
 
 -- ---- numbers
 

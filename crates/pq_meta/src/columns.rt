@@ -8,6 +8,7 @@ use crate::checks::check_count;
 use crate::codes::*;
 use crate::drafts::{ElementDraft, IntegerDraft, LogicalDraft, Member};
 use crate::fault::MetaFault;
+use crate::known::KnownColumns;
 use crate::meta::MetaColumn;
 use lake_types::{ColType, Listed, Words};
 use std::alloc::Global;
@@ -135,7 +136,8 @@ fn type_of(physical: i32, meaning: Meaning) -> Option<ColType>
 /// A name that is not UTF-8 counts as absent.
 #[tactic(auto, using(crate::proofs::NameLemmas::names))]
 fn name_of<'a>(name: &Option<Text<'a>>) -> Option<&'a str>
-    ensures { MatchOption result (spec.name_of name.now ≡ None) (λ text. spec.name_of name.now ≡ Some text.now) }
+    ensures { MatchOption result (spec.name_of name.now ≡ None)
+        (λ text. spec.name_of name.now ≡ Some text.now) }
 {
     match name {
         None => None,
@@ -144,7 +146,7 @@ fn name_of<'a>(name: &Option<Text<'a>>) -> Option<&'a str>
 }
 
 /// The field id of a column behind earlier ones, if it has one of its own.
-fn field_of(earlier: &[MetaColumn], field: Option<i32>) -> Option<u32>
+fn field_of(earlier: &KnownColumns, field: Option<i32>) -> Option<u32>
     ensures { result ≡ spec.field_of earlier.now field }
 {
     let Some(field) = field else { return None };
@@ -152,24 +154,17 @@ fn field_of(earlier: &[MetaColumn], field: Option<i32>) -> Option<u32>
         return None;
     }
     let id = field as u32;
-    if has_field(earlier, id) {
+    if earlier.has_field(id) {
         return None;
     }
     Some(id)
-}
-
-/// Whether a column has this field id.
-fn has_field(columns: &[MetaColumn], id: u32) -> bool
-    ensures { result ≡ spec.has_field columns.now id }
-{
-    columns.iter().any(|column| column.field == Some(id))
 }
 
 /// The column that an element without children names.
 #[tactic(auto, unfolding(crate::specs::Columns::leaf_of, crate::specs::Columns::optional_of))]
 fn leaf_of(
     alloc: Global,
-    earlier: &[MetaColumn],
+    earlier: &KnownColumns,
     element: &ElementDraft,
 ) -> Result<MetaColumn, MetaFault>
     ensures { Answers result (spec.leaf_of earlier.now element.now) }
@@ -218,7 +213,7 @@ fn nested_fault(alloc: Global, element: &ElementDraft) -> MetaFault
 #[tactic(auto, unfolding(crate::specs::Columns::column_of))]
 fn column_of(
     alloc: Global,
-    earlier: &[MetaColumn],
+    earlier: &KnownColumns,
     element: &ElementDraft,
 ) -> Result<MetaColumn, MetaFault>
     ensures { Answers result (spec.column_of earlier.now element.now) }
@@ -234,14 +229,14 @@ fn column_of(
 fn columns_behind(alloc: Global, elements: &[ElementDraft]) -> Result<Listed<MetaColumn>, MetaFault>
     ensures { Answers result (spec.columns_behind [] elements.now) }
 {
-    let mut columns = Listed::new(alloc);
+    let mut columns = KnownColumns::new(alloc);
     for element in elements {
-        match column_of(alloc, columns.as_slice(), element) {
-            Ok(column) => columns.push(column)?,
+        match column_of(alloc, &columns, element) {
+            Ok(column) => columns = columns.add(column)?,
             Err(fault) => return Err(fault),
         }
     }
-    Ok(columns)
+    Ok(columns.into_columns())
 }
 
 /// The columns of a schema.

@@ -12,6 +12,7 @@ mod drafts;
 mod fault;
 mod fields;
 mod groups;
+mod known;
 mod laws;
 mod meta;
 mod reading;

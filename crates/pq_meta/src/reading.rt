@@ -64,10 +64,11 @@ fn meta_of(alloc: Global, draft: &FooterDraft) -> Result<FileMeta, MetaFault>
 
 /// Reads the footer that some bytes begin with; what stands behind its stop is not looked at.
 ///
-/// It answers a footer exactly where the bytes have one, and else the first fault: first those of the fields' bytes,
-/// in byte order; then the footer's missing fields; then those of the schema's elements, the number of the root's
-/// children, those of the groups with their chunks, and the number of rows. The memory that is taken is bounded by
-/// the bytes given, whatever counts they state.
+/// It answers a footer exactly where the bytes begin with one, and else the first fault: those of the
+/// fields' bytes in byte order; then the footer's missing fields; then those of the schema's elements
+/// in order, the number of the root's children, those of the groups with their chunks in order, and
+/// the number of rows. The memory that is taken is bounded by the bytes given, whatever counts they
+/// state.
 #[tactic(auto, using(crate::proofs::EachLemmas::stops_then), unfolding(crate::specs::Footers::footer_of))]
 pub fn read_meta(alloc: Global, footer: &[u8]) -> Result<FileMeta, MetaFault>
     ensures { Answers result (spec.footer_of footer.now) }

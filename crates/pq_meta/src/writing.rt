@@ -1,6 +1,7 @@
 //! Writing a footer: the fields of each struct by rising id, each in its shortest spelling.
 
-ghost use Rattle.std.specs.Prelude.{◌≡◌, ◌+◌, ◌^◌, ◌<◌, ◌≤◌, ◌<ℤ◌, ◌++◌, pos, All, AllPairs, IfOk, IfSome, OnOk, length, sum_by};
+ghost use Rattle.std.specs.Prelude.{◌≡◌, ◌+◌, ◌^◌, ◌<◌, ◌≤◌, ◌<ℤ◌, ◌++◌, pos, length};
+ghost use Rattle.std.specs.Prelude.{All, IfOk, IfSome, OnOk};
 ghost use Rattle.pq_meta.specs.Footers.{footer_of};
 ghost use Rattle.pq_meta.specs.Spelling as spec;
 ghost use Rattle.std.specs.List.{flat_map};
@@ -307,6 +308,11 @@ fn put_footer(writer: &mut Writer, meta: &FileMeta) -> Result<(), NoMemory>
 }
 
 /// Writes a footer in its one spelling. [`read_meta`](crate::read_meta) gives it back.
+///
+/// A footer that can be written has at most 101 columns with names of at most 255 bytes and with
+/// field ids of at most 2,147,483,647, no two of them the same; fewer than 4,294,967,296 groups, each
+/// with one uncompressed chunk for each column, of as many values as the group has rows; as many rows
+/// as its groups have together; and no number and no sum of a group's lengths past 2^63 - 1.
 #[tactic(auto, using(crate::proofs::RoundTripLemmas::written_back))]
 pub fn write_meta(alloc: Global, meta: &FileMeta) -> Result<Vec<u8>, NoMemory>
     requires { IsWritable meta.now }
