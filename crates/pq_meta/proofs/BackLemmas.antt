@@ -15,7 +15,8 @@ use Rattle.pq_meta.specs.declared.meta.MetaChunk.{MetaChunk}
 use Rattle.pq_meta.specs.Checks.{counted, each}
 use Rattle.pq_meta.specs.Columns.{meaning_of, meaning_of_converted, type_of, optional_of, is_field_of, has_field, field_of, leaf_of, column_of, columns_behind, columns_of}
 use Rattle.pq_meta.specs.Groups.{described_of, chunk_of, group_of, rows_of}
-use Rattle.pq_meta.specs.Spelling.{physical_of, converted_of, repetition_of, HasText, OtherField, IsPlainChunk, IsGroup}
+use Rattle.pq_meta.specs.Consistency.{OtherField}
+use Rattle.pq_meta.specs.Spelling.{physical_of, converted_of, repetition_of, HasText, IsPlainChunk, IsGroup}
 use Rattle.pq_meta.proofs.WrittenLemmas.{id_of, element_of, root_of, chunk_draft_of, chunk_drafts_of, group_draft_of}
 
 pub counted_same : (n : ℕ) → counted n n ≡ Ok tt

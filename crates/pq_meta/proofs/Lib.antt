@@ -7,3 +7,4 @@ pub mod WrittenLemmas
 pub mod BackLemmas
 pub mod RoundTripLemmas
 pub mod KnownLemmas
+pub mod ConsistencyLemmas

@@ -4,3 +4,4 @@ pub mod Columns
 pub mod Groups
 pub mod Footers
 pub mod Spelling
+pub mod Consistency

@@ -1,5 +1,5 @@
 -- The one spelling of a footer that is written: the fields of each struct by rising id, each in its shortest spelling.
-use Rattle.std.specs.Prelude.{◌≡◌, ◌≢◌, ℕ, ℤ, pos, ◌+◌, ◌^◌, ◌<◌, ◌≤◌, ◌⊎◌, List, [], ◌∷◌, ◌++◌, length, codes, sum_by, All, AllPairs, IfSome, Option, Some, None, Bool, true, false}
+use Rattle.std.specs.Prelude.{◌≡◌, ℕ, ℤ, pos, ◌+◌, ◌^◌, ◌<◌, ◌≤◌, List, [], ◌∷◌, ◌++◌, length, codes, sum_by, All, AllPairs, IfSome, Option, Some, None, Bool, true, false}
 use Rattle.std.specs.List.{flat_map}
 use Rattle.std.specs.Str.{IsUtf8}
 use Rattle.lake_types.specs.declared.value.ColType.{ColType}
@@ -11,6 +11,7 @@ use Rattle.pq_meta.specs.declared.meta.FileMeta.{FileMeta}
 use Rattle.pq_meta.specs.declared.meta.MetaColumn.{MetaColumn}
 use Rattle.pq_meta.specs.declared.meta.MetaGroup.{MetaGroup}
 use Rattle.pq_meta.specs.declared.meta.MetaChunk.{MetaChunk}
+use Rattle.pq_meta.specs.Consistency.{OtherField}
 
 -- ---- fields, each behind the field `last` of its struct
 
@@ -165,10 +166,6 @@ pub record IsColumn (column : MetaColumn) : Type 0 where
 -- a name is a text
 abbrev pub HasText : MetaColumn → Type 0
 HasText column = IsUtf8 column.name
-
--- two columns are not known by the same field id
-abbrev pub OtherField : MetaColumn → MetaColumn → Type 0
-OtherField a b = (a.field ≡ None) ⊎ (a.field ≢ b.field)
 
 -- numbers that a file can state
 pub record IsExtent (chunk : MetaChunk) : Type 0 where

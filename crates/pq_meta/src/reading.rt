@@ -1,7 +1,8 @@
-ghost use Rattle.std.specs.Prelude.{◌≡◌, length};
+ghost use Rattle.std.specs.Prelude.{◌≡◌, length, IfOk};
 ghost use Rattle.thrift_compact.specs.Cursor.{Cursor};
 ghost use Rattle.thrift_structs.specs.Structs.{struct_of};
 ghost use Rattle.pq_meta.specs.Checks.{Answers};
+ghost use Rattle.pq_meta.specs.Consistency.{IsConsistent};
 ghost use Rattle.pq_meta.specs.Drafts.{footer_part, no_footer};
 ghost use Rattle.pq_meta.specs.Footers as spec;
 
@@ -69,9 +70,13 @@ fn meta_of(alloc: Global, draft: &FooterDraft) -> Result<FileMeta, MetaFault>
 /// in order, the number of the root's children, those of the groups with their chunks in order, and
 /// the number of rows. The memory that is taken is bounded by the bytes given, whatever counts they
 /// state.
+///
+/// The parts of a footer fit together: each group has a chunk for each column, of as many values as
+/// the group has rows, and no field id is that of two columns.
 #[tactic(auto, using(crate::proofs::EachLemmas::stops_then), unfolding(crate::specs::Footers::footer_of))]
 pub fn read_meta(alloc: Global, footer: &[u8]) -> Result<FileMeta, MetaFault>
-    ensures { Answers result (spec.footer_of footer.now) }
+    ensures exact { Answers result (spec.footer_of footer.now) }
+    ensures consistent { IfOk result IsConsistent }
 {
     match read_draft(alloc, footer) {
         Ok(draft) => meta_of(alloc, &draft),
