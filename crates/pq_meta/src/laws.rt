@@ -1,0 +1,12 @@
+//! What holds of the spelling. The function's contract is a law, and its body is empty.
+
+ghost use Rattle.std.specs.Prelude.{◌≡◌, All, Ok};
+ghost use Rattle.pq_meta.specs.declared.meta.FileMeta.{FileMeta};
+ghost use Rattle.pq_meta.specs.Footers.{footer_of};
+ghost use Rattle.pq_meta.specs.Spelling.{HasText, IsWritable, footer_bytes};
+
+/// What is written of a footer whose names are texts reads back as that footer.
+pub fn reads_back()
+    ensures { (meta : FileMeta) → IsWritable meta → All HasText meta.columns
+        → footer_of (footer_bytes meta) ≡ Ok meta }
+{}
