@@ -1,0 +1,5 @@
+pub mod Keys
+pub mod Validities
+pub mod Tables
+pub mod Batches
+pub mod Steps

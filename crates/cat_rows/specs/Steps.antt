@@ -1,0 +1,144 @@
+-- What the steps of a batch say of each other.
+use Rattle.std.specs.Prelude.{◌≡◌, ◌==◌, ◌≤◌, ◌&&◌, ◌||◌, ℕ, Bool, true, false, not, List, [], ◌∷◌}
+use Rattle.std.specs.List.{list_all, list_any}
+use Rattle.std.specs.Str.{bytes_eq}
+use Rattle.cat_tables.specs.Table.{LacksKey}
+use Rattle.cat_rows.specs.Keys.{metadata_key, snapshot_key, snapshot_changes_key, schema_key, table_key, column_key, data_file_key, delete_file_key, file_column_stats_key, table_stats_key, inlined_row_key, scheduled_file_key}
+use Rattle.cat_rows.specs.Batches.{added, count_in, holds, is_open, key_of}
+use Rattle.cat_rows.specs.Tables.{Tables}
+use Rattle.cat_rows.specs.declared.content.CatRows.{CatRows}
+use Rattle.cat_rows.specs.declared.batch.CatRow.{CatRow}
+use Rattle.cat_rows.specs.declared.batch.CatRow.TheVariants as row
+use Rattle.cat_rows.specs.declared.batch.Batch.{Batch}
+use Rattle.cat_rows.specs.declared.batch.Key.{Key}
+use Rattle.cat_rows.specs.declared.batch.Key.TheVariants as key
+use Rattle.cat_rows.specs.declared.cat_table.CatTable.TheVariants as cat_table
+
+-- no row has the key of this one
+abbrev pub IsFresh : Tables → CatRow → Type 0
+IsFresh t (row.Metadata r) = LacksKey metadata_key (metadata_key r) t.metadata
+IsFresh t (row.Snapshot r) = LacksKey snapshot_key (snapshot_key r) t.snapshot
+IsFresh t (row.SnapshotChanges r) = LacksKey snapshot_changes_key (snapshot_changes_key r) t.snapshot_changes
+IsFresh t (row.Schema r) = LacksKey schema_key (schema_key r) t.schema
+IsFresh t (row.Table r) = LacksKey table_key (table_key r) t.table
+IsFresh t (row.Column r) = LacksKey column_key (column_key r) t.column
+IsFresh t (row.DataFile r) = LacksKey data_file_key (data_file_key r) t.data_file
+IsFresh t (row.DeleteFile r) = LacksKey delete_file_key (delete_file_key r) t.delete_file
+IsFresh t (row.FileColumnStats r) = LacksKey file_column_stats_key (file_column_stats_key r) t.file_column_stats
+IsFresh t (row.TableStats r) = LacksKey table_stats_key (table_stats_key r) t.table_stats
+IsFresh t (row.Inlined r) = LacksKey inlined_row_key (inlined_row_key r) t.inlined_row
+IsFresh t (row.ScheduledFile r) = LacksKey scheduled_file_key (scheduled_file_key r) t.scheduled_file
+
+-- no row's key is there when its turn comes
+abbrev pub AreFresh : Tables → List CatRow → Type 0
+AreFresh t [] = Unit {0}
+AreFresh t (r ∷ rs) = IsFresh t r × AreFresh (added t r) rs
+
+-- the room in the table of a row
+abbrev pub room_for : CatRows → CatRow → ℕ
+room_for c (row.Metadata r) = c.metadata.room
+room_for c (row.Snapshot r) = c.snapshot.room
+room_for c (row.SnapshotChanges r) = c.snapshot_changes.room
+room_for c (row.Schema r) = c.schema.room
+room_for c (row.Table r) = c.table.room
+room_for c (row.Column r) = c.column.room
+room_for c (row.DataFile r) = c.data_file.room
+room_for c (row.DeleteFile r) = c.delete_file.room
+room_for c (row.FileColumnStats r) = c.file_column_stats.room
+room_for c (row.TableStats r) = c.table_stats.room
+room_for c (row.Inlined r) = c.inlined_row.room
+room_for c (row.ScheduledFile r) = c.scheduled_file.room
+
+-- all but the table of the row is as before
+abbrev pub with_row : CatRows → CatRows → CatRow → CatRows
+with_row old new (row.Metadata r) = record old { metadata = new.metadata }
+with_row old new (row.Snapshot r) = record old { snapshot = new.snapshot }
+with_row old new (row.SnapshotChanges r) = record old { snapshot_changes = new.snapshot_changes }
+with_row old new (row.Schema r) = record old { schema = new.schema }
+with_row old new (row.Table r) = record old { table = new.table }
+with_row old new (row.Column r) = record old { column = new.column }
+with_row old new (row.DataFile r) = record old { data_file = new.data_file }
+with_row old new (row.DeleteFile r) = record old { delete_file = new.delete_file }
+with_row old new (row.FileColumnStats r) = record old { file_column_stats = new.file_column_stats }
+with_row old new (row.TableStats r) = record old { table_stats = new.table_stats }
+with_row old new (row.Inlined r) = record old { inlined_row = new.inlined_row }
+with_row old new (row.ScheduledFile r) = record old { scheduled_file = new.scheduled_file }
+
+-- whether two keys are the same
+abbrev pub is_same : Key → Key → Bool
+is_same (key.Metadata a) (key.Metadata x) = bytes_eq a x
+is_same (key.Snapshot a) (key.Snapshot x) = (a == x)
+is_same (key.SnapshotChanges a) (key.SnapshotChanges x) = (a == x)
+is_same (key.Schema a) (key.Schema x) = (a == x)
+is_same (key.Table a) (key.Table x) = (a == x)
+is_same (key.Column a b c) (key.Column x y z) = (a == x) && (b == y) && (c == z)
+is_same (key.DataFile a) (key.DataFile x) = (a == x)
+is_same (key.DeleteFile a) (key.DeleteFile x) = (a == x)
+is_same (key.FileColumnStats a b) (key.FileColumnStats x y) = (a == x) && (b == y)
+is_same (key.TableStats a) (key.TableStats x) = (a == x)
+is_same (key.Inlined a b c) (key.Inlined x y z) = (a == x) && (b == y) && (c == z)
+is_same (key.ScheduledFile a) (key.ScheduledFile x) = bytes_eq a x
+is_same k l = false
+
+-- whether one of these keys is this one
+abbrev pub is_among : List Key → Key → Bool
+is_among keys k = list_any (λ l. is_same l k) keys
+
+-- whether one of these has this key
+abbrev pub has_key_of : {X : Type 0} → (X → Key) → List X → Key → Bool
+has_key_of key_in xs k = list_any (λ x. is_same (key_in x) k) xs
+
+abbrev pub all_differ : {X : Type 0} → (X → Key) → List X → Bool
+all_differ key_in [] = true
+all_differ key_in (x ∷ xs) = not (has_key_of key_in xs (key_in x)) && all_differ key_in xs
+
+-- the test of a batch, part by part
+abbrev pub all_there : Tables → List Key → Bool
+all_there t keys = list_all (holds t) keys
+
+abbrev pub all_open : Tables → List Key → List (Key × ℕ) → Bool
+all_open t removes ends = list_all (λ e. is_open t e.0 && not (is_among removes e.0)) ends
+
+-- the row's key isn't there, or is removed
+abbrev pub is_new : Tables → List Key → CatRow → Bool
+is_new t removes r = not (holds t (key_of r)) || is_among removes (key_of r)
+
+abbrev pub all_new : Tables → List Key → List CatRow → Bool
+all_new t removes adds = list_all (is_new t removes) adds
+
+abbrev pub passes : Tables → List Key → List (Key × ℕ) → List CatRow → Bool
+passes t removes ends adds =
+    all_differ (λ k. k) removes && all_differ (λ e. e.0) ends && all_differ key_of adds && all_there t removes && all_open t removes ends && all_new t removes adds
+
+-- the part of `Covers` for some tables
+pub record CoversHistory (c : CatRows) (adds : List CatRow) : Type 0 where
+  pub metadata : count_in cat_table.Metadata adds ≤ c.metadata.room
+  pub snapshot : count_in cat_table.Snapshot adds ≤ c.snapshot.room
+  pub snapshot_changes : count_in cat_table.SnapshotChanges adds ≤ c.snapshot_changes.room
+
+-- the part of `Covers` for some tables
+pub record CoversSchemas (c : CatRows) (adds : List CatRow) : Type 0 where
+  pub schema : count_in cat_table.Schema adds ≤ c.schema.room
+  pub table : count_in cat_table.Table adds ≤ c.table.room
+  pub column : count_in cat_table.Column adds ≤ c.column.room
+  pub inlined_row : count_in cat_table.Inlined adds ≤ c.inlined_row.room
+
+-- the part of `Covers` for some tables
+pub record CoversFiles (c : CatRows) (adds : List CatRow) : Type 0 where
+  pub data_file : count_in cat_table.DataFile adds ≤ c.data_file.room
+  pub delete_file : count_in cat_table.DeleteFile adds ≤ c.delete_file.room
+  pub file_column_stats : count_in cat_table.FileColumnStats adds ≤ c.file_column_stats.room
+  pub table_stats : count_in cat_table.TableStats adds ≤ c.table_stats.room
+  pub scheduled_file : count_in cat_table.ScheduledFile adds ≤ c.scheduled_file.room
+
+-- with some tables of others
+abbrev pub with_history : Tables → Tables → Tables
+with_history t from = record t { metadata = from.metadata; snapshot = from.snapshot; snapshot_changes = from.snapshot_changes }
+
+-- with some tables of others
+abbrev pub with_schemas : Tables → Tables → Tables
+with_schemas t from = record t { schema = from.schema; table = from.table; column = from.column; inlined_row = from.inlined_row }
+
+-- with some tables of others
+abbrev pub with_files : Tables → Tables → Tables
+with_files t from = record t { data_file = from.data_file; delete_file = from.delete_file; file_column_stats = from.file_column_stats; table_stats = from.table_stats; scheduled_file = from.scheduled_file }

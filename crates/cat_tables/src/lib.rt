@@ -1,0 +1,11 @@
+//! The tables of a catalogue, whatever their rows: rows that rise by a key, each key once, and rows that are
+//! valid from one snapshot until another.
+#![tactic(auto)]
+
+mod keyed;
+mod keyed_table;
+mod versioned;
+
+pub use keyed::Keyed;
+pub use keyed_table::KeyedTable;
+pub use versioned::Versioned;
