@@ -13,10 +13,6 @@ Reads read (Ok x) rest = read ≡ Ok (x, rest)
 Reads read (Err Wrong) rest = read ≡ Err rest
 Reads read (Err Memory) rest = Unit {0}
 
-abbrev pub kind_at : List Token → Option Kind
-kind_at [] = None
-kind_at (t ∷ rest) = Some t.kind
-
 -- the items of a list so far, with those that are still read
 abbrev pub with_front : {A : Type 0} → List A → Read (List (Unit {0} × A)) → Read (List A)
 with_front xs (Ok r) = Ok (xs ++ map (λ y. y.1) r.0, r.1)

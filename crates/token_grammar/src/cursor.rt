@@ -1,6 +1,6 @@
 ghost use Rattle.std.specs.Prelude.{◌≡◌, if◌then◌else◌, drop, length, ◌≤◌, Option};
 ghost use Rattle.token_grammar.specs.Grammar.{starts, read};
-ghost use Rattle.token_grammar.specs.Reads.{Reads, kind_at};
+ghost use Rattle.token_grammar.specs.Reads.{Reads};
 ghost use Rattle.token_grammar.specs.Phrases.{is, word};
 
 use line_tokens::{Kind, Token};
@@ -45,16 +45,6 @@ impl<'a> Cursor<'a> {
         match self.rest {
             [token, ..] => same_kind(kind, token.kind),
             [] => false,
-        }
-    }
-
-    /// What comes next.
-    pub fn kind(&self) -> Option<Kind>
-        ensures { result ≡ kind_at self.now.rest.now }
-    {
-        match self.rest {
-            [token, ..] => Some(token.kind),
-            [] => None,
         }
     }
 
