@@ -3,6 +3,7 @@ use Rattle.std.specs.Prelude.{ℕ, ◌==◌, List, [], ◌∷◌, ◌++◌, code
 use Rattle.std.specs.Fmt.{signed_decimal}
 use Rattle.std.specs.List.{join_with_byte}
 use Rattle.lake_types.specs.Cells.{cell_at}
+use Rattle.lake_types.specs.Texts.{quoted}
 use Rattle.lake_types.specs.declared.stmt.TableName.{TableName}
 use Rattle.lake_types.specs.declared.value.Column.{Column}
 use Rattle.lake_types.specs.declared.value.Value.{Value}
@@ -10,13 +11,6 @@ use Rattle.lake_types.specs.declared.value.Value.TheVariants as value
 use Rattle.lake_model.specs.declared.answer.Answer.{Answer}
 use Rattle.lake_model.specs.declared.answer.Answer.TheVariants.{Done, Number, InTransaction, NoTransaction, NoTable, NotBuilt, Memory}
 use Rattle.lake_model.specs.declared.answer.Reply.{Reply}
-
--- a name stands in double quotes, inner ones doubled
-abbrev pub doubled : ℕ → List ℕ
-doubled b = if b == 34 then 34 ∷ 34 ∷ [] else b ∷ []
-
-abbrev pub quoted : List ℕ → List ℕ
-quoted name = 34 ∷ (flat_map doubled name ++ 34 ∷ [])
 
 abbrev pub table_text : TableName → List ℕ
 table_text t = quoted t.schema ++ (46 ∷ quoted t.table)

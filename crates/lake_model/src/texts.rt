@@ -1,5 +1,6 @@
 ghost use Rattle.std.specs.Prelude.{◌≡◌, ◌++◌, ◌∷◌, [], IfOk, OnOk, decimal, flat_map};
 ghost use Rattle.std.specs.String.{string_bytes};
+ghost use Rattle.lake_types.specs.Texts.{quoted};
 ghost use Rattle.lake_model.specs.Texts as spec;
 
 use crate::answer::{Answer, Reply};
@@ -9,7 +10,7 @@ use std::alloc::{AllocError, Global};
 
 /// Adds a name in double quotes, inner ones doubled.
 fn push_quoted(out: &mut Vec<u8>, name: &[u8]) -> Result<(), AllocError>
-    ensures { OnOk result (out.new.items ≡ out.old.items ++ spec.quoted name.now) }
+    ensures { OnOk result (out.new.items ≡ out.old.items ++ quoted name.now) }
 {
     out.push(b'"')?;
     for b in name {

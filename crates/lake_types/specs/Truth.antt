@@ -1,5 +1,5 @@
 -- The truth of a test over a row, in three values.
-use Rattle.std.specs.Prelude.{ℕ, ℤ, Bool, true, false, cond, not, ◌==◌, List, [], ◌∷◌, Option, Some, None, unwrap_or, fold}
+use Rattle.std.specs.Prelude.{ℕ, Bool, true, false, not, List, Option, Some, None, fold}
 use Rattle.std.specs.declared.cmp.Ordering.{Ordering}
 use Rattle.std.specs.declared.cmp.Ordering.TheVariants.{Less, Equal, Greater}
 use Rattle.std.specs.Ordering.{nat_cmp, int_cmp, bool_cmp}

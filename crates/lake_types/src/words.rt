@@ -75,6 +75,13 @@ impl Blob {
         Ok(Blob { bytes })
     }
 
+    /// These bytes. It takes no memory.
+    pub fn from_vec(bytes: Vec<u8>) -> Blob
+        ensures { result ≡ bytes.items }
+    {
+        Blob { bytes }
+    }
+
     pub fn as_slice(&self) -> &[u8]
         ensures { result.now ≡ self.now }
     {

@@ -1,0 +1,3 @@
+pub mod CalendarLemmas
+mod TextLemmas
+pub mod ValueLemmas
