@@ -1,0 +1,5 @@
+pub mod DateLemmas
+pub mod LineAnswer
+pub mod PlaceLemmas
+pub mod RulesSound
+pub mod ValueLemmas

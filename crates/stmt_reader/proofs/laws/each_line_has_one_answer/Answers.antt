@@ -1,0 +1,5 @@
+use Rattle.stmt_reader.proofs.PlaceLemmas.{has_one_place, says_or_fails}
+use Rattle.stmt_reader.proofs.laws.each_line_has_one_answer.Goals as goal
+
+pub returns : goal.returns
+returns c = record { fault = says_or_fails; place = has_one_place }

@@ -1,0 +1,5 @@
+use Rattle.stmt_reader.proofs.PlaceLemmas.{one_thing}
+use Rattle.stmt_reader.proofs.laws.each_line_says_one_thing.Goals as goal
+
+pub returns : goal.returns
+returns c = one_thing

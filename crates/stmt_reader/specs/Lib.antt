@@ -1,0 +1,5 @@
+pub mod Dates
+pub mod Laws
+pub mod Lines
+pub mod Rules
+pub mod Values

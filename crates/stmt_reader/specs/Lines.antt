@@ -1,0 +1,74 @@
+-- What a line says, and where it fails to be one.
+use Rattle.std.specs.Prelude.{ℕ, ◌≤◌, ◌<◌, ◌≡◌, List, [], ◌∷◌, length, slice_index_or, Option, Some, None, Result, Ok, Err, if◌then◌else◌}
+use Rattle.lake_types.specs.declared.stmt.Stmt.{Stmt}
+use Rattle.line_tokens.specs.declared.token.Kind.TheVariants as k
+use Rattle.line_tokens.specs.declared.token.Token.{Token}
+use Rattle.line_tokens.specs.Tokens.{tokens_of, places_of, first_of}
+use Rattle.token_grammar.specs.Grammar.{Spells}
+use Rattle.token_grammar.specs.Phrases.{is}
+use Rattle.token_grammar.specs.Places.{IsWrongAt}
+use Rattle.stmt_reader.specs.declared.line.Fault.{Fault}
+use Rattle.stmt_reader.specs.declared.line.Fault.TheVariants.{WrongAt, NoMemory}
+use Rattle.stmt_reader.specs.declared.line.LineNo.{LineNo}
+use Rattle.stmt_reader.specs.declared.line.LineNo.TheVariants.{TooLong, Syntax, Memory}
+use Rattle.stmt_reader.specs.Rules as rules
+use Rattle.stmt_reader.specs.Values.{session_of}
+
+-- the most bytes of a line
+abbrev pub longest : ℕ
+longest = 1048576
+
+-- the session and the statement that a line spells
+abbrev pub Says : List ℕ → ℕ × Stmt → Type 0
+Says line said = Spells rules.line (tokens_of line) said
+
+-- ---- faults
+
+abbrev pub or_zero : Option ℕ → ℕ
+or_zero None = 0
+or_zero (Some n) = n
+
+abbrev pub session_in : Option Token → ℕ
+session_in None = 0
+session_in (Some t) = if is k.Number t.kind then or_zero (session_of t.text) else 0
+
+-- the first token's session, or 0 where it is none
+abbrev pub session_at : List ℕ → ℕ
+session_at line = session_in (first_of (tokens_of line))
+
+-- the offset of a token, or the line's length behind the last one
+abbrev pub place : List ℕ → ℕ → ℕ
+place line n = slice_index_or (places_of line) n (length line)
+
+-- the offset of the first token with which no line goes on; the line's length where more must follow
+abbrev pub IsFaultAt : List ℕ → ℕ → Type 0
+IsFaultAt line at = (n : ℕ) × IsWrongAt rules.line (tokens_of line) n × (at ≡ place line n)
+
+-- what is answered of a line
+abbrev pub LineAnswers : List ℕ → Result (ℕ × Stmt) LineNo → Type 0
+LineAnswers line (Ok said) = (length line ≤ longest) × Says line said
+LineAnswers line (Err (TooLong session)) = (longest < length line) × (session ≡ session_at line)
+LineAnswers line (Err (Syntax session at)) = (length line ≤ longest) × (session ≡ session_at line) × IsFaultAt line at
+LineAnswers line (Err Memory) = Unit {0}
+
+-- ---- tokens
+
+-- a whole line's answer is this one, but for want of memory
+abbrev pub Gives : Result (ℕ × Stmt) ℕ → Result (ℕ × Stmt) Fault → Type 0
+Gives found (Ok x) = found ≡ Ok x
+Gives found (Err (WrongAt n)) = found ≡ Err n
+Gives found (Err NoMemory) = Unit {0}
+
+abbrev pub TokensAnswer : List Token → Result (ℕ × Stmt) Fault → Type 0
+TokensAnswer ts (Ok said) = Spells rules.line ts said
+TokensAnswer ts (Err (WrongAt n)) = IsWrongAt rules.line ts n
+TokensAnswer ts (Err NoMemory) = Unit {0}
+
+abbrev pub located : List Token → List ℕ → ℕ → Fault → LineNo
+located ts places len (WrongAt n) = Syntax (session_in (first_of ts)) (slice_index_or places n len)
+located ts places len NoMemory = Memory
+
+abbrev pub IsTooLong : List ℕ → LineNo → Type 0
+IsTooLong line (TooLong session) = session ≡ session_at line
+IsTooLong line (Syntax session at) = ⊥
+IsTooLong line Memory = Unit {0}

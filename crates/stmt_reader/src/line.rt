@@ -1,0 +1,168 @@
+ghost use Rattle.std.specs.Prelude.{◌≡◌};
+ghost use Rattle.line_tokens.specs.Tokens.{first_of};
+ghost use Rattle.stmt_reader.specs.Lines as lines;
+ghost use Rattle.stmt_reader.specs.Rules as spec;
+ghost use Rattle.token_grammar.specs.Grammar.{read};
+ghost use Rattle.token_grammar.specs.Places.{ended};
+ghost use Rattle.token_grammar.specs.Reads.{Reads};
+
+use crate::numbers::session_of;
+use crate::statement::stmt;
+use lake_types::Stmt;
+use line_tokens::{Cut, Kind, Token, cut_of, first_token};
+use std::alloc::Global;
+use thiserror::Error;
+use token_grammar::{Cursor, Stop};
+
+/// The most bytes of a line, its line feed and a carriage return before it left out.
+const LINE_MOST: usize = 1_048_576;
+
+/// Why a line says nothing. The session is that of the line's first token where this is a valid one,
+/// else 0.
+#[derive(Clone, Copy, Debug, PartialEq, Eq, Error)]
+pub enum LineNo {
+    #[error("line too long")]
+    TooLong { session: u8 },
+    /// The offset of the first token with which no line goes on, or the line's length where more must follow.
+    #[error("syntax at {at}")]
+    Syntax { session: u8, at: u64 },
+    #[error("no memory")]
+    Memory,
+}
+
+/// Why tokens are no line: so many stand before the wrong one, or want of memory.
+#[derive(Clone, Copy)]
+pub enum Fault {
+    WrongAt(usize),
+    NoMemory,
+}
+
+#[tactic(auto, unfolding(token_grammar::specs::Phrases::is))]
+fn session_in(token: &Token) -> u8
+    ensures { result ≡ lines.session_in (Some token.now) }
+{
+    if token.kind == Kind::Number {
+        match session_of(token.text.as_str().as_bytes()) {
+            Some(session) => session,
+            None => 0,
+        }
+    } else {
+        0
+    }
+}
+
+#[tactic(auto, unfolding(token_grammar::specs::Phrases::is))]
+fn session(tokens: &mut Cursor<'_>) -> Result<u8, Stop>
+    ensures { Reads (read spec.session tokens.old.rest.now) result tokens.new.rest.now }
+{
+    let [token, more @ ..] = tokens.rest else {
+        return Err(Stop::Wrong);
+    };
+    if token.kind != Kind::Number {
+        return Err(Stop::Wrong);
+    }
+    match session_of(token.text.as_str().as_bytes()) {
+        Some(number) => {
+            tokens.rest = more;
+            Ok(number)
+        }
+        None => Err(Stop::Wrong),
+    }
+}
+
+#[tactic(auto, unfolding(crate::specs::Rules::line))]
+fn front(alloc: Global, tokens: &mut Cursor<'_>) -> Result<(u8, Stmt), Stop>
+    ensures { Reads (read spec.line tokens.old.rest.now) result tokens.new.rest.now }
+{
+    let number = session(tokens)?;
+    let stmt = stmt(alloc, tokens)?;
+    if tokens.sees(Kind::Semicolon) {
+        tokens.expect(Kind::Semicolon)?;
+    }
+    Ok((number, stmt))
+}
+
+fn line_of(alloc: Global, tokens: &[Token]) -> Result<(u8, Stmt), Fault>
+    ensures { lines.Gives (ended tokens.now (read spec.line tokens.now)) result }
+{
+    let mut cursor = Cursor { rest: tokens };
+    match front(alloc, &mut cursor) {
+        Ok(found) => {
+            if cursor.rest.is_empty() {
+                Ok(found)
+            } else {
+                Err(Fault::WrongAt(tokens.len().saturating_sub(cursor.rest.len())))
+            }
+        }
+        Err(Stop::Wrong) => Err(Fault::WrongAt(tokens.len().saturating_sub(cursor.rest.len()))),
+        Err(Stop::Memory) => Err(Fault::NoMemory),
+    }
+}
+
+/// What tokens say, or how many stand before the wrong one.
+#[tactic(auto, using(crate::proofs::LineAnswer::answered))]
+fn read_tokens(alloc: Global, tokens: &[Token]) -> Result<(u8, Stmt), Fault>
+    ensures { lines.TokensAnswer tokens.now result }
+{
+    let found = line_of(alloc, tokens);
+    found
+}
+
+fn session_first(tokens: &[Token]) -> u8
+    ensures { result ≡ lines.session_in (first_of tokens.now) }
+{
+    match tokens {
+        [token, ..] => session_in(token),
+        [] => 0,
+    }
+}
+
+/// The fault, with its session and its place in a line of so many bytes.
+fn located(tokens: &[Token], places: &[usize], len: usize, fault: Fault) -> LineNo
+    ensures { result ≡ lines.located tokens.now places.now len fault }
+{
+    let session = session_first(tokens);
+    match fault {
+        Fault::WrongAt(n) => match places.get(n) {
+            Some(at) => LineNo::Syntax {
+                session,
+                at: *at as u64,
+            },
+            None => LineNo::Syntax {
+                session,
+                at: len as u64,
+            },
+        },
+        Fault::NoMemory => LineNo::Memory,
+    }
+}
+
+fn too_long(alloc: Global, line: &[u8]) -> LineNo
+    ensures { lines.IsTooLong line.now result }
+{
+    match first_token(alloc, line) {
+        Ok(Some(token)) => LineNo::TooLong {
+            session: session_in(&token),
+        },
+        Ok(None) => LineNo::TooLong { session: 0 },
+        Err(_) => LineNo::Memory,
+    }
+}
+
+/// The session and the statement of a line, which stands without its line feed and a carriage return
+/// before it. A fault has the offset of the first token with which no line goes on.
+#[tactic(auto, unfolding(line_tokens::specs::Tokens::cut_of), using(crate::proofs::LineAnswer::located_fault))]
+pub fn read_line(alloc: Global, line: &[u8]) -> Result<(u8, Stmt), LineNo>
+    ensures { lines.LineAnswers line.now result }
+{
+    if line.len() > LINE_MOST {
+        return Err(too_long(alloc, line));
+    }
+    let Ok(Cut { tokens, places }) = cut_of(alloc, line) else {
+        return Err(LineNo::Memory);
+    };
+    match read_tokens(alloc, tokens.as_slice()) {
+        Ok(said) => Ok(said),
+        Err(fault) => Err(located(tokens.as_slice(), places.as_slice(), line.len(), fault)),
+    }
+}

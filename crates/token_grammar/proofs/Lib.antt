@@ -1,0 +1,9 @@
+pub mod Choices
+pub mod Fronts
+pub mod Known
+pub mod Lines
+pub mod ListSteps
+pub mod Repeats
+pub mod Samples
+pub mod Sound
+pub mod WrittenLemmas

@@ -1,0 +1,14 @@
+use Rattle.std.proofs.Common.{◌≡◌, ◌<◌, ◌++◌, ◌∷◌, length, arith, rules, None}
+use Rattle.token_text.specs.Spelled.{all_doubled}
+use Rattle.token_text.proofs.QuoteLemmas.{doubled_first, doubled_none}
+use Rattle.token_text.proofs.spelling.at_first.Goals as goal
+
+pub returns-clause-doubled : goal.returns-clause-doubled
+returns-clause-doubled c =
+    let split = c.split_once.ensures.byte c.requires (λ w o f. f) in
+    grind (rules, split, doubled_first c.args.mark c.args.text.now)
+
+pub returns-clause-none : goal.returns-clause-none
+returns-clause-none c =
+    let split = c.split_once.ensures.byte c.requires (λ w o f. f) in
+    grind (rules, split, doubled_none c.args.mark c.args.text.now)

@@ -1,0 +1,8 @@
+//! Tokens put into a line, of which they are the tokens again.
+#![tactic(auto)]
+
+mod laws;
+mod spelling;
+
+pub use laws::{forms_are_cut, spelled_tokens_are_cut_again};
+pub use spelling::spell;

@@ -1,0 +1,117 @@
+ghost use Rattle.std.specs.Prelude.{◌≡◌, ◌∷◌, ◌++◌, ◌<◌, [], length, IfOk, IfSome, MatchOption, OnOk, None};
+ghost use Rattle.std.specs.String.{string_bytes};
+ghost use Rattle.token_text.specs.Spelled as spec;
+
+use lake_types::Words;
+use line_tokens::{Kind, Token};
+use std::alloc::{AllocError, Global};
+
+fn sign_text(kind: Kind) -> Option<&'static str>
+    ensures { MatchOption result (spec.sign_text kind ≡ None) (λ sign. spec.sign_text kind ≡ Some sign.now) }
+{
+    match kind {
+        Kind::LeftParen => Some("("),
+        Kind::RightParen => Some(")"),
+        Kind::Comma => Some(","),
+        Kind::Dot => Some("."),
+        Kind::Semicolon => Some(";"),
+        Kind::Star => Some("*"),
+        Kind::Eq => Some("="),
+        Kind::Ne => Some("<>"),
+        Kind::Lt => Some("<"),
+        Kind::Le => Some("<="),
+        Kind::Gt => Some(">"),
+        Kind::Ge => Some(">="),
+        Kind::Arrow => Some("=>"),
+        _ => None,
+    }
+}
+
+/// The text before and after its first such character.
+fn at_first(mark: char, text: &str) -> Option<(&str, &str)>
+    requires { mark < 128 }
+    ensures doubled { IfSome result (λ x. spec.all_doubled mark text.now ≡ x.0.now ++ mark ∷ mark ∷ spec.all_doubled mark x.1.now) }
+    ensures shorter { IfSome result (λ x. length x.1.now < length text.now) }
+    ensures none { result ≡ None → spec.all_doubled mark text.now ≡ text.now }
+{
+    text.split_once(mark)
+}
+
+/// Adds a text with each such character doubled.
+fn put_doubled(line: &mut String, mark: char, pair: &str, text: &str) -> Result<(), AllocError>
+    requires ascii { mark < 128 }
+    requires pair { pair.now ≡ mark ∷ mark ∷ [] }
+    ensures { OnOk result (string_bytes line.new ≡ string_bytes line.old ++ spec.all_doubled mark text.now) }
+{
+    let mut rest = text;
+    while let Some((before, after)) = at_first(mark, rest) {
+        line.push_str(before)?;
+        line.push_str(pair)?;
+        rest = after;
+    }
+    line.push_str(rest)?;
+    Ok(())
+}
+
+fn put_name(line: &mut String, name: &str) -> Result<(), AllocError>
+    ensures { OnOk result (string_bytes line.new ≡ string_bytes line.old ++ spec.quoted_by 34 name.now) }
+{
+    line.push_str("\"")?;
+    put_doubled(line, '"', "\"\"", name)?;
+    line.push_str("\"")?;
+    Ok(())
+}
+
+fn put_text(line: &mut String, text: &str) -> Result<(), AllocError>
+    ensures { OnOk result (string_bytes line.new ≡ string_bytes line.old ++ spec.quoted_by 39 text.now) }
+{
+    line.push_str("'")?;
+    put_doubled(line, '\'', "''", text)?;
+    line.push_str("'")?;
+    Ok(())
+}
+
+fn put_bytes(line: &mut String, digits: &str) -> Result<(), AllocError>
+    ensures { OnOk result (string_bytes line.new ≡ string_bytes line.old ++ spec.spelling_of Kind.Bytes digits.now) }
+{
+    line.push_str("x'")?;
+    line.push_str(digits)?;
+    line.push_str("'")?;
+    Ok(())
+}
+
+fn put_plain(line: &mut String, kind: Kind, text: &str) -> Result<(), AllocError>
+    ensures { OnOk result (string_bytes line.new ≡ string_bytes line.old ++ spec.sign_or text.now (spec.sign_text kind)) }
+{
+    match sign_text(kind) {
+        Some(sign) => line.push_str(sign)?,
+        None => line.push_str(text)?,
+    }
+    Ok(())
+}
+
+fn put(line: &mut String, token: &Token) -> Result<(), AllocError>
+    ensures { OnOk result (string_bytes line.new ≡ string_bytes line.old ++ spec.spelling token.now) }
+{
+    let text = token.text.as_str();
+    match token.kind {
+        Kind::Quoted => put_name(line, text),
+        Kind::Text => put_text(line, text),
+        Kind::Bytes => put_bytes(line, text),
+        kind => put_plain(line, kind, text),
+    }
+}
+
+/// The line of these tokens, with a blank behind each.
+pub fn spell(alloc: Global, tokens: &[Token]) -> Result<Words, AllocError>
+    ensures { IfOk result (λ line. line ≡ spec.spelled tokens.now) }
+{
+    let mut line = String::new(alloc);
+    let mut rest = tokens;
+    while let [token, more @ ..] = rest {
+        put(&mut line, token)?;
+        line.push_str(" ")?;
+        rest = more;
+    }
+    Ok(Words::from_string(line))
+}
