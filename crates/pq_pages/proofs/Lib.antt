@@ -5,3 +5,4 @@ pub mod PageLemmas
 pub mod HeaderBackLemmas
 pub mod ChunkBackLemmas
 pub mod FitLemmas
+pub mod TestLemmas
