@@ -8,7 +8,7 @@ use Rattle.cat_tables.proofs.FrameLemmas.{visible_at-batch}
 use Rattle.cat_rows.specs.Batches.{added, removed, ended, ended_row, applied}
 use Rattle.cat_rows.specs.Keys.{schema_key, table_key, column_key, data_file_key, delete_file_key, inlined_row_key}
 use Rattle.cat_rows.specs.Validities.{schema_validity, schema_laws, table_validity, table_laws, column_validity, column_laws, data_file_validity, data_file_laws, delete_file_validity, delete_file_laws, inlined_row_validity, inlined_row_laws}
-use Rattle.cat_rows.specs.Seen.{Seen, seen_at, BeginsPast, HidesKey, IsPast, KeepsEarlier}
+use Rattle.cat_rows.specs.Seen.{seen_at, BeginsPast, HidesKey, IsPast, KeepsEarlier}
 use Rattle.cat_rows.specs.Tables.{Tables}
 use Rattle.cat_rows.specs.declared.schemas.SchemaRow.{SchemaRow}
 use Rattle.cat_rows.specs.declared.schemas.TableRow.{TableRow}
