@@ -1,20 +1,18 @@
 -- When a batch fits, each addition finds its place free; and what the test of fitting answers.
-use Rattle.std.proofs.Common.{◌≡◌, ◌≢◌, ◌&&◌, ◌||◌, ◌+◌, ◌<◌, ℕ, length, drop, get_or, Bool, true, false, cond, not, List, [], ◌∷◌, map, refl, sym, ap, ap₂, subst, ◌∙◌, Option, is_some, is_eq, true≢false, Decides}
+use Rattle.std.proofs.Common.{◌≡◌, ◌≢◌, ◌&&◌, ◌||◌, ◌+◌, ◌<◌, ℕ, length, drop, get_or, Bool, true, false, not, List, [], ◌∷◌, map, refl, sym, ap, subst, ◌∙◌, is_some, true≢false, Decides}
 use Rattle.std.specs.Prelude.{fold, IsTrue}
-use Rattle.std.specs.List.{AllByRecursion, list_all, list_any}
+use Rattle.std.specs.List.{AllByRecursion, list_all}
 use Rattle.std.proofs.lemmas.Bool.Decides.{Decides-eqb, Decides-and}
 use Rattle.std.proofs.lemmas.List.{at_drop_more}
-use Rattle.std.specs.Str.{bytes_eq}
 use Rattle.std.proofs.lemmas.Slice.Eq.{bytes_eq-Decides}
-use Rattle.cat_tables.specs.Table.{key_cmp, has_key, row_of}
 use Rattle.cat_tables.specs.Validity.{ended_at}
 use Rattle.cat_tables.proofs.FrameLemmas.{key-ended_at}
-use Rattle.cat_tables.proofs.KeyLemmas.{key_apart, key_eq}
+use Rattle.cat_tables.proofs.KeyLemmas.{key_apart}
 use Rattle.cat_tables.proofs.RowLemmas.{LacksKey-row_of, row_of-put, is_some-row_of-edited, row_of-without, row_of-without_other}
 use Rattle.cat_rows.specs.Batches.{added, removed, ended, ended_row, key_of, holds, is_open, AllDiffer, Fits}
 use Rattle.cat_rows.specs.Keys.{metadata_key, snapshot_key, snapshot_changes_key, schema_key, table_key, column_key, data_file_key, delete_file_key, file_column_stats_key, table_stats_key, inlined_row_key, scheduled_file_key}
 use Rattle.cat_rows.specs.Validities.{schema_validity, schema_laws, table_validity, table_laws, column_validity, column_laws, data_file_validity, data_file_laws, delete_file_validity, delete_file_laws, inlined_row_validity, inlined_row_laws}
-use Rattle.cat_rows.specs.Steps.{IsFresh, AreFresh, is_same, is_among, has_key_of, all_differ, all_there, all_open, all_new, passes}
+use Rattle.cat_rows.specs.Steps.{IsFresh, AreFresh, is_same, is_among, has_key_of, all_differ, passes}
 use Rattle.cat_rows.specs.Tables.{Tables}
 use Rattle.cat_rows.specs.declared.batch.Batch.{Batch}
 use Rattle.cat_rows.specs.declared.batch.CatRow.{CatRow}

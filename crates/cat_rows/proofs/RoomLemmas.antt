@@ -1,5 +1,5 @@
 -- Room for a batch's additions.
-use Rattle.std.proofs.Common.{◌≡◌, ℕ, ◌+◌, ◌<◌, ◌≤◌, List, ◌∷◌, arith, subst, sym}
+use Rattle.std.proofs.Common.{◌≡◌, ◌+◌, ◌<◌, ◌≤◌, List, ◌∷◌, arith, subst, sym}
 use Rattle.cat_rows.specs.Batches.{Covers, KeepsRoom}
 use Rattle.cat_rows.specs.Steps.{with_row, room_for, CoversHistory, CoversSchemas, CoversFiles}
 use Rattle.cat_rows.specs.declared.content.CatRows.{CatRows}

@@ -1,5 +1,5 @@
 -- A batch of changes to the catalogue's rows: what it does to each table, and when it fits.
-use Rattle.std.specs.Prelude.{◌≡◌, ◌≢◌, ◌≤◌, ℕ, Bool, true, false, List, [], ◌∷◌, filter, fold, length, map, Option, Some, None, IsTrue, is_none, is_some}
+use Rattle.std.specs.Prelude.{◌≡◌, ◌≢◌, ◌≤◌, ℕ, Bool, true, false, List, [], ◌∷◌, filter, fold, length, map, Option, IsTrue, is_none, is_some}
 use Rattle.std.specs.List.{AllByRecursion}
 use Rattle.std.specs.Option.{option_map_or}
 use Rattle.cat_tables.specs.Table.{IsAscending, put, without, edited, row_of}
@@ -7,18 +7,6 @@ use Rattle.cat_tables.specs.Validity.{Validity, ended_at}
 use Rattle.cat_rows.specs.Keys.{metadata_key, snapshot_key, snapshot_changes_key, schema_key, table_key, column_key, data_file_key, delete_file_key, file_column_stats_key, table_stats_key, inlined_row_key, scheduled_file_key}
 use Rattle.cat_rows.specs.Validities.{schema_validity, table_validity, column_validity, data_file_validity, delete_file_validity, inlined_row_validity}
 use Rattle.cat_rows.specs.Tables.{Tables}
-use Rattle.cat_rows.specs.declared.history.MetadataRow.{MetadataRow}
-use Rattle.cat_rows.specs.declared.history.SnapshotRow.{SnapshotRow}
-use Rattle.cat_rows.specs.declared.history.SnapshotChangesRow.{SnapshotChangesRow}
-use Rattle.cat_rows.specs.declared.schemas.SchemaRow.{SchemaRow}
-use Rattle.cat_rows.specs.declared.schemas.TableRow.{TableRow}
-use Rattle.cat_rows.specs.declared.schemas.ColumnRow.{ColumnRow}
-use Rattle.cat_rows.specs.declared.files.DataFileRow.{DataFileRow}
-use Rattle.cat_rows.specs.declared.files.DeleteFileRow.{DeleteFileRow}
-use Rattle.cat_rows.specs.declared.files.FileColumnStatsRow.{FileColumnStatsRow}
-use Rattle.cat_rows.specs.declared.files.TableStatsRow.{TableStatsRow}
-use Rattle.cat_rows.specs.declared.inlined.InlinedRow.{InlinedRow}
-use Rattle.cat_rows.specs.declared.files.ScheduledFileRow.{ScheduledFileRow}
 use Rattle.cat_rows.specs.declared.content.CatRows.{CatRows}
 use Rattle.cat_rows.specs.declared.batch.Batch.{Batch}
 use Rattle.cat_rows.specs.declared.batch.CatRow.{CatRow}

@@ -3,3 +3,4 @@ pub mod Validities
 pub mod Tables
 pub mod Batches
 pub mod Steps
+pub mod Seen

@@ -1,5 +1,5 @@
 -- What the steps of a batch say of each other.
-use Rattle.std.specs.Prelude.{◌≡◌, ◌==◌, ◌≤◌, ◌&&◌, ◌||◌, ℕ, Bool, true, false, not, List, [], ◌∷◌}
+use Rattle.std.specs.Prelude.{◌==◌, ◌≤◌, ◌&&◌, ◌||◌, ℕ, Bool, true, false, not, List, [], ◌∷◌}
 use Rattle.std.specs.List.{list_all, list_any}
 use Rattle.std.specs.Str.{bytes_eq}
 use Rattle.cat_tables.specs.Table.{LacksKey}
@@ -9,7 +9,6 @@ use Rattle.cat_rows.specs.Tables.{Tables}
 use Rattle.cat_rows.specs.declared.content.CatRows.{CatRows}
 use Rattle.cat_rows.specs.declared.batch.CatRow.{CatRow}
 use Rattle.cat_rows.specs.declared.batch.CatRow.TheVariants as row
-use Rattle.cat_rows.specs.declared.batch.Batch.{Batch}
 use Rattle.cat_rows.specs.declared.batch.Key.{Key}
 use Rattle.cat_rows.specs.declared.batch.Key.TheVariants as key
 use Rattle.cat_rows.specs.declared.cat_table.CatTable.TheVariants as cat_table

@@ -1,5 +1,5 @@
 -- The validity intervals of the tables that have them.
-use Rattle.std.specs.Prelude.{ℕ, Option, refl}
+use Rattle.std.specs.Prelude.{refl}
 use Rattle.cat_tables.specs.Validity.{Validity, IsValidity}
 use Rattle.cat_rows.specs.Keys.{schema_key, table_key, column_key, data_file_key, delete_file_key, inlined_row_key}
 use Rattle.cat_rows.specs.declared.schemas.SchemaRow.{SchemaRow}

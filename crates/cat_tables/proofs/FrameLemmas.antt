@@ -4,8 +4,8 @@ use Rattle.std.specs.Prelude.{nat_le, is_none}
 use Rattle.std.specs.List.{AllByRecursion}
 use Rattle.std.proofs.lemmas.Bool.{and_left, lt-ltb, lt-leb}
 use Rattle.std.proofs.lemmas.Bool.Decides.{nat_tests}
-use Rattle.cat_tables.specs.Table.{key_cmp, put, put_all, edited, has_key, without}
-use Rattle.cat_tables.specs.Validity.{Validity, IsValidity, is_visible, visible_at, ended_at, all_ended, is_before, Rests}
+use Rattle.cat_tables.specs.Table.{key_cmp, put, put_all, edited, has_key, without, all_removed}
+use Rattle.cat_tables.specs.Validity.{Validity, IsValidity, is_visible, visible_at, ended_at, all_ended, is_before, IsUnseen, Rests}
 
 module _ {R : Type 0} (key : R → List ℕ) (v : Validity R) where
   -- a row that s doesn't see changes nothing at s
@@ -121,3 +121,20 @@ module _ {R : Type 0} (key : R → List ℕ) (v : Validity R) where
             → map (v.with_end None) (cond b (r ∷ filter (is_visible v s) (put key new rs)) (filter (is_visible v s) (put key new rs))) ≡ map (v.with_end None) (cond b (r ∷ filter (is_visible v s) rs) (filter (is_visible v s) rs)) ++ v.with_end None new ∷ []
         go true more = ap (λ l. v.with_end None r ∷ l) more
         go false more = more
+
+    unseen_without : (s : ℕ) (l k : List ℕ) (rs : List R) → IsUnseen v key s k rs → IsUnseen v key s k (without key l rs)
+    unseen_without s l k [] h = tt
+    unseen_without s l k (r ∷ rs) h = elim (has_key key l r) as (λ b. IsUnseen v key s k (cond (not b) (r ∷ without key l rs) (without key l rs))) [ true ↦ unseen_without s l k rs h.1 | false ↦ (h.0, unseen_without s l k rs h.1) ]
+
+    all_unseen_without : (s : ℕ) (l : List ℕ) (ks : List (List ℕ)) (rs : List R) → AllByRecursion (λ k. IsUnseen v key s k rs) ks → AllByRecursion (λ k. IsUnseen v key s k (without key l rs)) ks
+    all_unseen_without s l [] rs h = tt
+    all_unseen_without s l (k ∷ ks) rs h = (unseen_without s l k rs h.0, all_unseen_without s l ks rs h.1)
+
+    -- rows that s doesn't see are taken away
+    pub visible_at-all_removed : (s : ℕ) (ks : List (List ℕ)) (rs : List R) → AllByRecursion (λ k. IsUnseen v key s k rs) ks → visible_at v s (all_removed key ks rs) ≡ visible_at v s rs
+    visible_at-all_removed s [] rs h = refl
+    visible_at-all_removed s (k ∷ ks) rs h = visible_at-all_removed s ks (without key k rs) (all_unseen_without s k ks rs h.1) ∙ visible_at-without_unseen s k rs h.0
+
+    -- A batch that takes away what s doesn't see, and ends and begins rows past s, changes nothing that s sees.
+    pub visible_at-batch : (s : ℕ) (ks : List (List ℕ)) (ends : List (List ℕ × ℕ)) (news rs : List R) → AllByRecursion (λ k. IsUnseen v key s k rs) ks → AllByRecursion (λ e. s < e.1) ends → AllByRecursion (λ r. s < v.begin r) news → visible_at v s (put_all key news (all_ended v key ends (all_removed key ks rs))) ≡ visible_at v s rs
+    visible_at-batch s ks ends news rs gone late begins = visible_at-frame s ends news (all_removed key ks rs) late begins ∙ visible_at-all_removed s ks rs gone

@@ -56,6 +56,10 @@ module _ {R : Type 0} (key : R → List ℕ) where
   abbrev pub without : List ℕ → List R → List R
   without k = filter (λ r. not (has_key k r))
 
+  -- the rows without those of these keys
+  abbrev pub all_removed : List (List ℕ) → List R → List R
+  all_removed ks rows = fold (λ rs k. without k rs) rows ks
+
   -- the rows, with the one of this key changed
   abbrev pub edited : (R → R) → List ℕ → List R → List R
   edited f k = map (λ r. if has_key k r then f r else r)

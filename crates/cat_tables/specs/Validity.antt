@@ -1,7 +1,8 @@
 -- Rows with a validity interval: each is valid from the snapshot at which it begins until the one at which it
 -- ends, or for good. What a snapshot sees of them.
 use Rattle.std.specs.Prelude.{◌≡◌, ◌≢◌, ◌+◌, ℕ, Bool, true, false, ◌&&◌, List, map, filter, fold, Option, Some, None, nat_lt, nat_le, if◌then◌else◌, is_none}
-use Rattle.cat_tables.specs.Table.{edited}
+use Rattle.std.specs.List.{AllByRecursion}
+use Rattle.cat_tables.specs.Table.{edited, has_key}
 
 -- how a sort of row keeps its interval
 pub record Validity (R : Type 0) : Type 0 where
@@ -30,6 +31,10 @@ module _ {R : Type 0} (v : Validity R) where
   -- the rows of these keys end there
   abbrev pub all_ended : (R → List ℕ) → List (List ℕ × ℕ) → List R → List R
   all_ended key ends rows = fold (λ rs e. edited key (ended_at e.1) e.0 rs) rows ends
+
+  -- s doesn't see the row of a key
+  abbrev pub IsUnseen : (R → List ℕ) → ℕ → List ℕ → List R → Type 0
+  IsUnseen key s k rows = AllByRecursion (λ r. has_key key k r ≡ true → is_visible s r ≡ false) rows
 
   -- a row that passes p neither begins nor ends at n + 1
   abbrev pub Rests : (R → Bool) → ℕ → R → Type 0
