@@ -8,7 +8,8 @@ use thiserror::Error;
 /// Why a sheet is not laid into some columns.
 #[derive(Clone, Copy, Debug, PartialEq, Eq, Error)]
 pub enum LayFault {
-    /// The sheet has values of the type `have` in this field, and they may not stand in a column of the type `want`.
+    /// The sheet has values of the type `have` in this field, and they may not stand in a column of the type
+    /// `want`.
     #[error("field {field} has values of another type")]
     Kind {
         field: u32,

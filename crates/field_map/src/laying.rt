@@ -8,12 +8,12 @@ use lake_types::{
 };
 use std::alloc::{AllocError, Global};
 
-/// The rows of a sheet, laid into the columns by field id, with ids counted from 0. A row has a cell for each column, in
-/// the columns' order: the cell of the sheet's column with that field id, as it stands, or the column's initial default
-/// where the sheet has no such column.
+/// The rows of a sheet, laid into the columns by field id, with ids counted from 0. A row has a cell for each
+/// column, in the columns' order: the cell of the sheet's column with that field id, as it stands, or the column's
+/// initial default where the sheet has no such column, or a column without a cell in that row.
 ///
 /// `LayFault::Kind` tells the first column in order whose field has values of another type in the sheet, one that
-/// doesn't promote to the column's. The time is linear in the cells of the rows, and each of these is copied once.
+/// doesn't promote to the column's. Each cell of the rows is copied once.
 pub fn lay(alloc: Global, sheet: &Sheet, columns: &[Column]) -> Result<RowList, LayFault>
     ensures rows { IfOk result (λ rows. rows ≡ spec.laid columns.now sheet.now) }
     ensures agrees { IfOk result (λ _. spec.first_fault sheet.now.columns columns.now ≡ None) }

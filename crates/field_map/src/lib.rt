@@ -1,5 +1,5 @@
-//! Rows laid by field id: a data file is read into the columns that its table has now. A column that was renamed, moved
-//! or promoted finds its cells by its field id, and one that the file never had reads as its initial default.
+//! Rows laid by field id: a data file is read into the columns that its table has now. A column that was renamed,
+//! moved or promoted finds its cells by its field id, and one that the file never had reads as its initial default.
 #![tactic(auto)]
 
 mod fault;
@@ -7,6 +7,3 @@ mod laying;
 
 pub use fault::LayFault;
 pub use laying::lay;
-
-#[cfg(test)]
-mod tests;
