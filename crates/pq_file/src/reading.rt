@@ -1,0 +1,218 @@
+//! The sheet that a file holds.
+
+ghost use Rattle.std.specs.Prelude.{◌≡◌, ◌≤◌, ◌∷◌, List, None, Some, IfOk, filter, fold, map};
+ghost use Rattle.std.specs.Option.{option_copied};
+ghost use Rattle.std.specs.Vec.Iter.{into_iter_items};
+ghost use Rattle.lake_types.specs.declared.sheet.SheetColumn.{SheetColumn};
+ghost use Rattle.pq_meta.specs.Consistency.{IsConsistent};
+ghost use Rattle.pq_file.specs.Answers.{Answers};
+ghost use Rattle.pq_file.specs.Reading as spec;
+
+use crate::fault::{FileFault, meta_fault};
+use crate::frame::footer_in;
+use crate::groups::{groups_in, is_wanted};
+use crate::parts::{GroupParts, Part};
+use crate::ranges::groups_fit;
+use lake_types::{Copied, Listed, NoMemory, Sheet, SheetColumn, SheetColumns, ValueList};
+use pq_meta::{FileMeta, MetaColumn, read_meta};
+use std::alloc::Global;
+use std::vec::IntoIter;
+
+/// The most rows of a file that is read.
+const MOST_ROWS: u64 = 4_194_304;
+
+/// A column of the sheet, without cells.
+fn bare(alloc: Global, column: &MetaColumn) -> Result<SheetColumn, NoMemory>
+    ensures { IfOk result (λ bare. bare ≡ spec.bare column.now) }
+{
+    Ok(SheetColumn {
+        field: column.field,
+        name: column.name.copy(alloc)?,
+        ty: column.ty,
+        optional: column.optional,
+        cells: ValueList::new(alloc),
+    })
+}
+
+/// The columns of the sheet, without cells.
+fn bare_columns(
+    alloc: Global,
+    fields: Option<&[u32]>,
+    columns: &[MetaColumn],
+) -> Result<SheetColumns, NoMemory>
+    ensures { IfOk result (λ kept. kept
+        ≡ map spec.bare (filter (spec.is_wanted (option_copied fields.entry)) columns.now)) }
+{
+    let mut kept = SheetColumns::new(alloc);
+    for column in columns {
+        if is_wanted(fields, column) {
+            kept.push(bare(alloc, column)?)?;
+        }
+    }
+    Ok(kept)
+}
+
+/// A column with the cells of a part behind its own.
+fn longer(column: SheetColumn, part: Part) -> Result<SheetColumn, NoMemory>
+    ensures { IfOk result (λ longer. longer ≡ spec.longer column part) }
+{
+    let SheetColumn {
+        field,
+        name,
+        ty,
+        optional,
+        cells,
+    } = column;
+    let Part {
+        place: _,
+        ty: _,
+        cells: more,
+    } = part;
+    let mut cells = cells.into_vec();
+    let mut more = more.into_vec();
+    cells.append(&mut more)?;
+    Ok(SheetColumn {
+        field,
+        name,
+        ty,
+        optional,
+        cells: ValueList::from_vec(cells),
+    })
+}
+
+/// A column with the next part.
+fn next_column(column: SheetColumn, parts: &mut IntoIter<Part>) -> Result<SheetColumn, NoMemory>
+    ensures { IfOk result (λ longer. (columns : List SheetColumn) →
+        spec.beside (column ∷ columns) (into_iter_items parts.old)
+        ≡ longer ∷ spec.beside columns (into_iter_items parts.new)) }
+{
+    match parts.next() {
+        Some(part) => longer(column, part),
+        None => Ok(column),
+    }
+}
+
+/// The parts of a group, behind the cells of the groups before it.
+#[tactic(auto, using(crate::proofs::SheetLemmas::beside_goes_on))]
+fn beside(
+    alloc: Global,
+    columns: SheetColumns,
+    parts: Listed<Part>,
+) -> Result<SheetColumns, NoMemory>
+    ensures { IfOk result (λ grown. grown ≡ spec.beside columns parts) }
+{
+    let mut grown = SheetColumns::new(alloc);
+    let mut parts = parts.into_vec().into_iter();
+    for column in columns.into_vec() {
+        grown.push(next_column(column, &mut parts)?)?;
+    }
+    Ok(grown)
+}
+
+/// The columns with the parts of all groups.
+fn joined(
+    alloc: Global,
+    bare: SheetColumns,
+    groups: Listed<GroupParts>,
+) -> Result<SheetColumns, NoMemory>
+    ensures { IfOk result (λ columns. columns ≡ fold spec.with_group bare groups) }
+{
+    let mut columns = bare;
+    for group in groups.into_vec() {
+        columns = beside(alloc, columns, group.parts)?;
+    }
+    Ok(columns)
+}
+
+fn sheet_of(
+    alloc: Global,
+    fields: Option<&[u32]>,
+    meta: &FileMeta,
+    groups: Listed<GroupParts>,
+) -> Result<Sheet, NoMemory>
+    ensures { IfOk result (λ sheet. sheet ≡ spec.sheet_of (option_copied fields.entry) meta.now groups) }
+{
+    let bare = bare_columns(alloc, fields, meta.columns.as_slice())?;
+    Ok(Sheet {
+        columns: joined(alloc, bare, groups)?,
+        rows: meta.num_rows,
+    })
+}
+
+fn few_rows(rows: u64) -> Result<(), FileFault>
+    ensures exact { result ≡ spec.few_rows rows }
+    ensures few { IfOk result (λ u. rows ≤ 4194304) }
+{
+    if rows > MOST_ROWS {
+        Err(FileFault::TooManyRows { rows })
+    } else {
+        Ok(())
+    }
+}
+
+/// What a footer's chunks hold, in the order of faults.
+#[tactic(auto, using(crate::proofs::AnswerLemmas::handed_on, crate::proofs::SheetLemmas::few_read), unfolding(crate::specs::Reading::sheet_in))]
+fn sheet_in(
+    alloc: Global,
+    bytes: &[u8],
+    fields: Option<&[u32]>,
+    meta: &FileMeta,
+) -> Result<Sheet, FileFault>
+    requires { IsConsistent meta.now }
+    ensures { Answers result (spec.sheet_in bytes.now (option_copied fields.entry) meta.now) }
+{
+    match few_rows(meta.num_rows) {
+        Ok(()) => {}
+        Err(fault) => return Err(fault),
+    }
+    let columns = meta.columns.as_slice();
+    let groups = match groups_in(alloc, bytes, fields, columns, meta.groups.as_slice()) {
+        Ok(groups) => groups,
+        Err(fault) => return Err(fault),
+    };
+    match groups_fit(groups.as_slice()) {
+        Ok(()) => {}
+        Err(fault) => return Err(fault),
+    }
+    match sheet_of(alloc, fields, meta, groups) {
+        Ok(sheet) => Ok(sheet),
+        Err(_) => Err(FileFault::Memory),
+    }
+}
+
+#[tactic(auto, using(crate::proofs::AnswerLemmas::handed_on, crate::proofs::AnswerLemmas::meta_fails), unfolding(crate::specs::Reading::file_of))]
+fn file_of(alloc: Global, fields: Option<&[u32]>, bytes: &[u8]) -> Result<Sheet, FileFault>
+    ensures { Answers result (spec.file_of (option_copied fields.entry) bytes.now) }
+{
+    let footer = match footer_in(bytes) {
+        Ok(footer) => footer,
+        Err(fault) => return Err(fault),
+    };
+    let meta = match read_meta(alloc, footer) {
+        Ok(meta) => meta,
+        Err(fault) => return Err(meta_fault(fault)),
+    };
+    sheet_in(alloc, bytes, fields, &meta)
+}
+
+/// Reads a whole file.
+///
+/// It answers the sheet exactly where the file has one, and else the first fault in reading order: the two ends, the
+/// footer's length, the footer, the number of rows; then each chunk, by group and column; last the ranges of the cells,
+/// by group, column and row. No memory is taken for rows of a file that has more than 4,194,304, nor for a value of more
+/// than 16,777,216 bytes.
+pub fn read_file(alloc: Global, bytes: &[u8]) -> Result<Sheet, FileFault>
+    ensures exact { Answers result (spec.file_of None bytes.now) }
+{
+    file_of(alloc, None, bytes)
+}
+
+/// Reads the columns of a file that have one of these field ids, in the file's order.
+///
+/// The chunks of other columns are not looked at, so nothing in them is a fault. In a fault the column is its place among
+/// all columns of the file.
+pub fn read_columns(alloc: Global, bytes: &[u8], fields: &[u32]) -> Result<Sheet, FileFault>
+    ensures exact { Answers result (spec.file_of (Some fields.now) bytes.now) }
+{
+    file_of(alloc, Some(fields), bytes)
+}
