@@ -56,7 +56,7 @@ fn has(rows: &RowList, row: usize, field: u32, number: i64) -> bool {
     }
 }
 
-/// The column `a` is named `c` and promoted now. The column `b` was dropped and added again, with a new field id.
+/// The column `a` is named `c` and promoted now. The column `b` was dropped and added again: a new field id.
 #[test]
 fn renamed_promoted_dropped_and_added(rt: HostRuntime) -> Result<(), Fail> {
     let alloc = rt.alloc();
