@@ -7,3 +7,6 @@ mod laying;
 
 pub use fault::LayFault;
 pub use laying::lay;
+
+#[cfg(test)]
+mod tests;
