@@ -1,5 +1,4 @@
-//! Whole Apache Parquet files, both ways: a sheet of columns from a file's bytes, and the bytes of a sheet (Apache
-//! Parquet format, "File Format").
+//! Whole Apache Parquet files: the sheet of columns that a file's bytes hold (Apache Parquet format, "File Format").
 #![tactic(auto)]
 
 mod cells;
