@@ -7,3 +7,6 @@ pub mod laws;
 mod stats;
 
 pub use stats::{ColStats, merge_stats, stats_of};
+
+#[cfg(test)]
+mod tests;
