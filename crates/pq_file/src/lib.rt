@@ -11,3 +11,6 @@ mod reading;
 
 pub use fault::FileFault;
 pub use reading::{read_columns, read_file};
+
+#[cfg(test)]
+mod tests;
