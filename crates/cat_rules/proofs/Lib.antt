@@ -1,2 +1,3 @@
 pub mod FirstLemmas
 mod LayoutLemmas
+pub mod SnapshotLemmas
