@@ -1,3 +1,5 @@
 pub mod FirstLemmas
 mod LayoutLemmas
 pub mod SnapshotLemmas
+mod KeptLemmas
+pub mod ColumnLemmas

@@ -2,3 +2,6 @@ pub mod Rows
 pub mod Places
 pub mod First
 pub mod History
+pub mod Intervals
+pub mod Counters
+pub mod Steps
