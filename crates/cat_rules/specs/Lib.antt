@@ -5,3 +5,4 @@ pub mod History
 pub mod Intervals
 pub mod Counters
 pub mod Steps
+pub mod Named

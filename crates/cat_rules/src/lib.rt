@@ -1,6 +1,7 @@
 //! The rules of a sane catalogue: for each of them the first row that breaks it.
 #![tactic(auto)]
 
+mod bad_row;
 mod dated;
 mod history_rule;
 mod id_rule;
@@ -11,6 +12,7 @@ mod order;
 mod rule;
 mod stats_rule;
 
+pub use bad_row::BadRow;
 pub use history_rule::first_bad_snapshot;
 pub use id_rule::first_bad_id;
 pub use interval_rule::first_bad_interval;
