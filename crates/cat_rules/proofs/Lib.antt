@@ -3,3 +3,5 @@ mod LayoutLemmas
 pub mod SnapshotLemmas
 mod KeptLemmas
 pub mod ColumnLemmas
+mod SightLemmas
+mod ReferLemmas

@@ -6,3 +6,5 @@ pub mod Intervals
 pub mod Counters
 pub mod Steps
 pub mod Named
+pub mod Sight
+pub mod Schemas

@@ -73,8 +73,9 @@ fn key_text(alloc: Global, key: &Key) -> Result<Words, NoMemory>
         | Key::DeleteFile(id)
         | Key::TableStats(id) => number_text(alloc, *id),
         Key::FileColumnStats(file, column) => pair_text(alloc, *file, *column),
-        Key::Column(table, id, begin) | Key::Inlined(table, id, begin) =>
-            triple_text(alloc, *table, *id, *begin),
+        Key::Column(table, id, begin) | Key::Inlined(table, id, begin) => triple_text(
+            alloc, *table, *id, *begin,
+        ),
     }
 }
 

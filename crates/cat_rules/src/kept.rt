@@ -1,9 +1,12 @@
 ghost use Rattle.std.specs.Prelude.{◌≡◌};
 ghost use Rattle.std.specs.Option.{option_copied};
+ghost use Rattle.cat_tables.specs.Table.{RisesByKey};
+ghost use Rattle.cat_rows.specs.Batches.{tables_of};
+ghost use Rattle.cat_rows.specs.Keys.{snapshot_key};
 ghost use Rattle.cat_rules.specs.Intervals as spec;
 ghost use Rattle.cat_rules.specs.Rows.{newest};
 
-use cat_rows::SnapshotRow;
+use cat_rows::{CatRows, SnapshotRow};
 
 /// The kept snapshots: all from the first to the newest.
 #[derive(Clone, Copy, Debug)]
@@ -28,11 +31,13 @@ fn id_of(row: Option<&SnapshotRow>) -> u64
     }
 }
 
-pub(crate) fn kept_of(rows: &[SnapshotRow]) -> Kept
-    ensures { result ≡ spec.kept_of rows.now }
+pub(crate) fn kept_of(rows: &CatRows) -> Kept
+    ensures kept { result ≡ spec.kept_of (tables_of rows.now).snapshot }
+    ensures rises { RisesByKey snapshot_key (tables_of rows.now).snapshot }
 {
+    let snapshots = rows.snapshot();
     Kept {
-        first: id_of(rows.first()),
-        newest: id_of(newest_of(rows)),
+        first: id_of(snapshots.first()),
+        newest: id_of(newest_of(snapshots)),
     }
 }

@@ -8,9 +8,12 @@ mod id_rule;
 mod interval_rule;
 mod kept;
 mod layout_rule;
+mod lookup;
 mod order;
+mod refer_rule;
 mod rule;
 mod stats_rule;
+mod table_rule;
 
 pub use bad_row::BadRow;
 pub use history_rule::first_bad_snapshot;
@@ -18,3 +21,4 @@ pub use id_rule::first_bad_id;
 pub use interval_rule::first_bad_interval;
 pub use layout_rule::first_bad_layout;
 pub use stats_rule::first_bad_stats;
+pub use table_rule::first_unmatched_table;
