@@ -1,3 +1,5 @@
 pub mod FirstLemmas
 mod LayoutLemmas
 pub mod SnapshotLemmas
+pub mod CheckedLemmas
+mod LookupLemmas

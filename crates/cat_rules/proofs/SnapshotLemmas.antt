@@ -103,9 +103,9 @@ missing_first r rs o up h = go o h
     go (Some k) h = (
       (h.0, h.1, inl h.2, inr h.3, λ among. ⊎_elim (λ e. absurd (omega (arith, h.2))) (λ more. h.4 more) among),
       λ j bad s.
-        let Sooner : Key → Key → Type 0 = λ a b. is_sooner a b ≡ true in
-        let lt : bad.0 < h.0 = sooner_lt bad.0 h.0 (subst (λ a. Sooner a (key.Snapshot h.0)) (sym bad.1) (subst (λ b. Sooner j b) (sym h.1) s)) in
-        bad.4 (inr (h.5 bad.0 (past bad.0 bad.2) lt)),
+          let Sooner : Key → Key → Type 0 = λ a b. is_sooner a b ≡ true in
+          let lt : bad.0 < h.0 = sooner_lt bad.0 h.0 (subst (λ a. Sooner a (key.Snapshot h.0)) (sym bad.1) (subst (λ b. Sooner j b) (sym h.1) s)) in
+          bad.4 (inr (h.5 bad.0 (past bad.0 bad.2) lt)),
     )
 
 pub first_missing : (r : SnapshotRow) (rs : List SnapshotRow) → RisesByKey snapshot_key (r ∷ rs) → FirstBad (IsMissing (r ∷ rs)) (gap r.snapshot_id rs)

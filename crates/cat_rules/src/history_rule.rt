@@ -22,7 +22,11 @@ impl RowRule<SnapshotRow> for LacksText<'_> {
 
     fn judge(&self, row: &SnapshotRow) -> Option<Key> {
         let key = Key::SnapshotChanges(row.snapshot_id);
-        if self.rows.holds(&key) { None } else { Some(key) }
+        if self.rows.holds(&key) {
+            None
+        } else {
+            Some(key)
+        }
     }
 }
 
@@ -39,7 +43,11 @@ impl RowRule<SnapshotChangesRow> for LacksSnapshot<'_> {
 
     fn judge(&self, row: &SnapshotChangesRow) -> Option<Key> {
         let key = Key::Snapshot(row.snapshot_id);
-        if self.rows.holds(&key) { None } else { Some(key) }
+        if self.rows.holds(&key) {
+            None
+        } else {
+            Some(key)
+        }
     }
 }
 
