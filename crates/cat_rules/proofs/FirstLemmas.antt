@@ -31,13 +31,17 @@ sooner_along i j k p q = go (key_cmp (place j) (place k)) refl
 
 -- ---- one of some
 
+pub none_of : {X : Type 0} (P : X → Type 0) (xs : List X) → AllByRecursion (λ x. P x → ⊥) xs → SomeOf P xs → ⊥
+none_of P [] none h = h
+none_of P (x ∷ xs) none h = ⊎_elim (λ p. none.0 p) (λ p. none_of P xs none.1 p) h
+
 pub SomeOf_like : {X : Type 0} (P Q : X → Type 0) → ((x : X) → P x → Q x) → (xs : List X) → SomeOf P xs → SomeOf Q xs
 SomeOf_like P Q f [] h = h
 SomeOf_like P Q f (x ∷ xs) h = ⊎_elim (λ p. inl (f x p)) (λ p. inr (SomeOf_like P Q f xs p)) h
 
 -- ---- rows that rise
 
-all_like : {X : Type 0} (P Q : X → Type 0) → ((x : X) → P x → Q x) → (xs : List X) → AllByRecursion P xs → AllByRecursion Q xs
+pub all_like : {X : Type 0} (P Q : X → Type 0) → ((x : X) → P x → Q x) → (xs : List X) → AllByRecursion P xs → AllByRecursion Q xs
 all_like P Q f [] h = tt
 all_like P Q f (x ∷ xs) h = (f x h.0, all_like P Q f xs h.1)
 
@@ -64,7 +68,35 @@ module _ (P Q : Key → Type 0) where
       go true e = (inr q.0, λ j h s. ⊎_elim (λ x. p.1 j x (sooner_then j b a s e)) (λ x. q.1 j x s) h)
       go false e = (inl p.0, λ j h s. ⊎_elim (λ x. p.1 j x s) (λ x. q.1 j x (sooner_along j a b s e)) h)
 
+  -- the same of an answer that is told by an equation
+  pub first_or : (a b o : Option Key) → o ≡ sooner a b → FirstBad P a → FirstBad Q b → FirstBad (λ k. P k ⊎ Q k) o
+  first_or a b o e p q = subst (FirstBad (λ k. P k ⊎ Q k)) (sym e) (first_either a b p q)
+
 -- ---- the first of rows
+
+-- ---- rows that stand in the order of the keys that they name
+
+module _ {R : Type 0} (name : R → Key) (Bad : R → Type 0) (r : R) (rs : List R) where
+  abbrev StandsFirst : List R → Type 0
+  StandsFirst = AllByRecursion (λ q. is_sooner (name r) (name q) ≡ true)
+
+  later : (qs : List R) → StandsFirst qs → (j : Key) → Names name Bad qs j → is_sooner j (name r) ≡ true → ⊥
+  later [] up j h s = h
+  later (q ∷ qs) up j h s =
+      ⊎_elim (λ x. let T : Key → Type 0 = λ i. is_sooner i (name r) ≡ true in not_sooner_itself (name r) (sooner_then (name r) (name q) (name r) up.0 (subst T (sym x.1) s)))
+      (λ x. later qs up.1 j x s) h
+
+  -- the first of these is bad
+  pub first_here : StandsFirst rs → Bad r → FirstBad (Names name Bad (r ∷ rs)) (Some (name r))
+  first_here up bad = (inl (bad, refl), λ j h s. ⊎_elim (λ x. let T : Key → Type 0 = λ i. is_sooner i (name r) ≡ true in not_sooner_itself (name r) (subst T (sym x.1) s)) (λ x. later rs up j x s) h)
+
+  -- the first of these isn't bad
+  pub first_behind : (Bad r → ⊥) → (o : Option Key) → FirstBad (Names name Bad rs) o → FirstBad (Names name Bad (r ∷ rs)) o
+  first_behind fine o h = first_like (Names name Bad rs) (Names name Bad (r ∷ rs)) (λ k p. inr p) (λ k p. ⊎_elim (λ x. absurd (fine x.0)) (λ x. x) p) o h
+
+-- the answer for rows that a call handed out
+pub first_in : {R : Type 0} (name : R → Key) (is_bad : R → Bool) (rows given : List R) (o : Option Key) → given ≡ rows → FirstBad (NamesIf name is_bad given) o → FirstBad (NamesIf name is_bad rows) o
+first_in name is_bad rows given o e h = subst (λ l. FirstBad (NamesIf name is_bad l) o) e h
 
 -- a key that is bad or not, by itself
 pub first_alone : (P : Type 0) (k : Key) (b : Bool) → Decides b P → FirstBad (λ j. P × (k ≡ j)) (cond b (Some k) None)
@@ -101,20 +133,11 @@ module _ {R : Type 0} (name : R → Key) (is_bad : R → Bool) where
       (λ k p. SomeOf_like _ _ (λ r x. ((d r).0 x.0, x.1)) rows p)
       (λ k p. SomeOf_like _ _ (λ r x. ((d r).1 x.0, x.1)) rows p) o h
 
-  later : (r : R) (rs : List R) → AllByRecursion (λ q. is_sooner (name r) (name q) ≡ true) rs → (j : Key) → NamesIf name is_bad rs j → is_sooner j (name r) ≡ true → ⊥
-  later r [] up j h s = h
-  later r (q ∷ rs) up j h s =
-      ⊎_elim (λ x. let T : Key → Type 0 = λ i. is_sooner i (name r) ≡ true in not_sooner_itself (name r) (sooner_then (name r) (name q) (name r) up.0 (subst T (sym x.1) s)))
-      (λ x. later r rs up.1 j x s) h
-
   -- of rows that stand in the order of the keys that they name, the first bad one
   pub first_found : (rows : List R) → IsAscending (λ a b. is_sooner (name a) (name b) ≡ true) rows → FirstBad (NamesIf name is_bad rows) (option_map name (find is_bad rows))
   first_found [] up = λ k h. h
   first_found (r ∷ rs) up = go (is_bad r) refl (first_found rs up.1)
     where
-      here : (j : Key) → (is_bad r ≡ true) × (name r ≡ j) → is_sooner j (name r) ≡ true → ⊥
-      here j x s = let T : Key → Type 0 = λ i. is_sooner i (name r) ≡ true in not_sooner_itself (name r) (subst T (sym x.1) s)
-
       go : (b : Bool) → is_bad r ≡ b → FirstBad (NamesIf name is_bad rs) (option_map name (find is_bad rs)) → FirstBad (NamesIf name is_bad (r ∷ rs)) (option_map name (cond b (Some r) (find is_bad rs)))
-      go true e more = (inl (e, refl), λ j h s. ⊎_elim (λ x. here j x s) (λ x. later r rs up.0 j x s) h)
-      go false e more = first_like (NamesIf name is_bad rs) (NamesIf name is_bad (r ∷ rs)) (λ k p. inr p) (λ k p. ⊎_elim (λ x. absurd (true≢false (sym x.0 ∙ e))) (λ x. x) p) _ more
+      go true e more = first_here name (λ q. is_bad q ≡ true) r rs up.0 e
+      go false e more = first_behind name (λ q. is_bad q ≡ true) r rs (λ bad. true≢false (sym bad ∙ e)) _ more

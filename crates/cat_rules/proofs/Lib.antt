@@ -3,3 +3,5 @@ mod LayoutLemmas
 pub mod SnapshotLemmas
 pub mod CheckedLemmas
 mod LookupLemmas
+mod KeptLemmas
+pub mod ColumnLemmas

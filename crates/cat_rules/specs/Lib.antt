@@ -5,3 +5,7 @@ pub mod History
 pub mod Lookups
 pub mod Readable
 pub mod ColumnStats
+pub mod Intervals
+pub mod Counters
+pub mod Steps
+pub mod Named

@@ -30,3 +30,7 @@ abbrev pub newest : List SnapshotRow → Option SnapshotRow
 newest [] = None
 newest (r ∷ []) = Some r
 newest (r ∷ q ∷ rs) = newest (q ∷ rs)
+
+abbrev pub oldest : List SnapshotRow → Option SnapshotRow
+oldest [] = None
+oldest (r ∷ rs) = Some r
