@@ -1,12 +1,12 @@
 -- The first bad row of rows that are judged one by one.
-use Rattle.std.proofs.Common.{◌≡◌, ◌⊎◌, inl, inr, ⊎_elim, ℕ, ◌+◌, ◌<◌, ◌≤◌, Bool, true, false, List, [], ◌∷◌, Option, Some, None, length, drop, get_or, is_some, refl, sym, ap, subst, ◌∙◌, true≢false, arith}
+use Rattle.std.proofs.Common.{◌≡◌, inl, inr, ⊎_elim, ℕ, ◌+◌, ◌<◌, ◌≤◌, true, false, List, [], ◌∷◌, Option, Some, None, length, drop, get_or, is_some, refl, sym, ap, subst, ◌∙◌, true≢false}
 use Rattle.std.specs.List.{AllByRecursion}
 use Rattle.std.proofs.lemmas.List.{at_drop_all, at_drop_more}
 use Rattle.cat_tables.specs.Table.{IsAscending}
 use Rattle.cat_rows.specs.declared.batch.Key.{Key}
 use Rattle.cat_rules.specs.First.{FirstBad, Judges}
 use Rattle.cat_rules.specs.Places.{is_sooner}
-use Rattle.cat_rules.specs.Rows.{SomeOf, Names}
+use Rattle.cat_rules.specs.Rows.{Names}
 use Rattle.cat_rules.proofs.FirstLemmas.{first_like, not_sooner_itself, sooner_then}
 
 module _ {R : Type 0} (name : R → Key) (Bad : R → Type 0) where

@@ -1,5 +1,5 @@
 -- Rows that another row refers to.
-use Rattle.std.specs.Prelude.{ℕ, Bool, List, [], ◌∷◌, Option, Some, None, filter}
+use Rattle.std.specs.Prelude.{ℕ, List, [], ◌∷◌, Option, Some, None, filter}
 use Rattle.cat_tables.specs.Table.{has_key, row_of}
 use Rattle.cat_rows.specs.Keys.{data_file_key, table_stats_key}
 use Rattle.cat_rows.specs.Tables.{Tables}

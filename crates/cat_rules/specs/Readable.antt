@@ -1,5 +1,5 @@
 -- The catalogue's texts of types, and texts that a type can't read.
-use Rattle.std.specs.Prelude.{◌≡◌, ◌≢◌, ℕ, List, [], ◌∷◌, Option, Some, None, codes, find}
+use Rattle.std.specs.Prelude.{◌≡◌, ℕ, List, [], ◌∷◌, Option, Some, None, codes, find}
 use Rattle.std.specs.Str.{bytes_eq}
 use Rattle.lake_types.specs.Texts.{HasText}
 use Rattle.lake_types.specs.declared.value.ColType.{ColType}

@@ -1,4 +1,4 @@
-use Rattle.std.proofs.Common.{◌≡◌, ◌∙◌, [], ◌∷◌, Some, None, cond, is_eq, true, false, sym, ap, arith, rules}
+use Rattle.std.proofs.Common.{◌≡◌, ◌∙◌, [], ◌∷◌, Some, None, cond, is_eq, true, false, ap, arith}
 use Rattle.cat_tables.specs.Table.{has_key}
 use Rattle.cat_rules.specs.Lookups.{column_of}
 use Rattle.cat_rules.proofs.LookupLemmas.{columns_rise, last_none, last_at}

@@ -1,4 +1,4 @@
-use Rattle.std.proofs.Common.{◌≡◌, [], ◌∷◌, not, is_gt, rules}
+use Rattle.std.proofs.Common.{[], ◌∷◌, not, is_gt, rules}
 use Rattle.std.proofs.lemmas.Fn.{always_returns_same}
 use Rattle.cat_tables.specs.Table.{key_cmp}
 use Rattle.cat_tables.proofs.PlaceLemmas.{prefix_len-partition}
