@@ -5,6 +5,7 @@ use Rattle.std.proofs.lemmas.Bool.{cases_lt, eqb-true}
 use Rattle.std.proofs.lemmas.List.{get_or_append_left}
 use Rattle.std.proofs.Math.Seq.{get_or-append_seam}
 use Rattle.std.proofs.lemmas.List.Elements.{All-cons}
+use Rattle.thrift_structs.specs.Structs.{struct_of}
 use Rattle.pq_meta.specs.declared.drafts.ElementDraft.{ElementDraft}
 use Rattle.pq_meta.specs.declared.drafts.FooterDraft.{FooterDraft}
 use Rattle.pq_meta.specs.declared.drafts.GroupDraft.{GroupDraft}
@@ -18,7 +19,8 @@ use Rattle.pq_meta.specs.declared.meta.MetaGroup.{MetaGroup}
 use Rattle.pq_meta.specs.declared.meta.MetaChunk.{MetaChunk}
 use Rattle.pq_meta.specs.Checks.{◌then◌, need, counted, each, Answers}
 use Rattle.pq_meta.specs.Columns.{meaning_of, type_of, known_type, name_of, children_of, optional_of, is_field_of, has_field, field_of, nested_of, leaf_of, column_of, columns_behind, columns_of}
-use Rattle.pq_meta.specs.Footers.{meta_of}
+use Rattle.pq_meta.specs.Drafts.{footer_part, no_footer}
+use Rattle.pq_meta.specs.Footers.{footer_of, meta_of, read_of}
 use Rattle.pq_meta.specs.Groups.{described_of, chunk_of, group_of, rows_of}
 use Rattle.pq_meta.specs.Consistency.{OtherField, HasValues, FitsColumns, IsConsistent}
 
@@ -216,6 +218,12 @@ meta_consistent draft meta h =
       rows = sym (counted_equal rows.value (rows_of kept.value) compared.value compared.gives);
     } in
     subst IsConsistent (ok_same (record { columns = columns.value; num_rows = rows.value; groups = kept.value }) meta compared.later) is
+
+pub footer_consistent : (bytes : List ℕ) (meta : FileMeta) → footer_of bytes ≡ Ok meta → IsConsistent meta
+unfolding footer_of
+footer_consistent bytes meta h =
+    let draft = steps (read_of (struct_of footer_part no_footer (length bytes) bytes)) meta_of meta h in
+    meta_consistent draft.value meta draft.later
 
 -- what is answered for a draft is consistent, if it is a footer
 pub answer_consistent : (read : Result FileMeta MetaFault) (draft : FooterDraft) → Answers read (meta_of draft) → IfOk read IsConsistent
