@@ -3,3 +3,4 @@ pub mod Frame
 pub mod Cells
 pub mod Reading
 pub mod Joining
+pub mod Sheets

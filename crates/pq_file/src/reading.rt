@@ -9,12 +9,14 @@ ghost use Rattle.pq_meta.specs.Consistency.{FitsColumns, IsConsistent};
 ghost use Rattle.pq_file.specs.Answers.{Answers};
 ghost use Rattle.pq_file.specs.Joining as joining;
 ghost use Rattle.pq_file.specs.Reading as spec;
+ghost use Rattle.pq_file.specs.Sheets.{IsSound};
 
 use crate::fault::{FileFault, meta_fault};
 use crate::frame::footer_in;
 use crate::groups::{is_wanted, parts_in};
 use crate::parts::{Misfit, Part};
 use crate::ranges::misfit_in;
+use crate::sound::reads_sound;
 use lake_types::{Copied, Listed, NoMemory, Sheet, SheetColumn, SheetColumns, ValueList};
 use pq_meta::{FileMeta, MetaColumn, MetaGroup, read_meta};
 use std::alloc::Global;
@@ -208,8 +210,14 @@ fn file_of(alloc: Global, fields: Option<&[u32]>, bytes: &[u8]) -> Result<Sheet,
 /// by group, column and row. No memory is taken for rows of a file that has more than 4,194,304, nor for a value of more
 /// than 16,777,216 bytes.
 pub fn read_file(alloc: Global, bytes: &[u8]) -> Result<Sheet, FileFault>
+    // The sheet, exactly where the file holds one; else the first fault.
     ensures exact { Answers result (spec.file_of None bytes.now) }
+
+    // Each column has a cell for each row, of its type, and NULL only where it is optional; field ids differ.
+    ensures sound { IfOk result IsSound }
 {
+    // The law on which the last clause stands.
+    reads_sound();
     file_of(alloc, None, bytes)
 }
 
@@ -218,7 +226,13 @@ pub fn read_file(alloc: Global, bytes: &[u8]) -> Result<Sheet, FileFault>
 /// The chunks of other columns are not looked at, so nothing in them is a fault. In a fault the column is its place among
 /// all columns of the file.
 pub fn read_columns(alloc: Global, bytes: &[u8], fields: &[u32]) -> Result<Sheet, FileFault>
+    // The sheet of these columns, exactly where the file holds one; else the first fault.
     ensures exact { Answers result (spec.file_of (Some fields.now) bytes.now) }
+
+    // It is sound, as a whole one is.
+    ensures sound { IfOk result IsSound }
 {
+    // The law on which the last clause stands.
+    reads_sound();
     file_of(alloc, Some(fields), bytes)
 }
