@@ -21,8 +21,9 @@ pub record IsCellOf (t : ColType) (optional : Bool) (cell : Value) : Type 0 wher
   pub given : optional ≡ false → cell ≢ value.Null
   pub good : HasGoodBytes cell
 
--- a cell for each row
+-- a name that is a text, and a cell for each row
 pub record IsSoundColumn (rows : ℕ) (column : SheetColumn) : Type 0 where
+  pub named : IsUtf8 column.name
   pub full : length column.cells ≡ rows
   pub cells : All (IsCellOf column.ty column.optional) column.cells
 
