@@ -5,6 +5,8 @@
 mod limits;
 mod marks;
 mod span;
+#[cfg(test)]
+mod tests;
 
 pub use limits::first_past;
 pub use span::{Group, Span};
