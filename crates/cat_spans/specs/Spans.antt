@@ -1,7 +1,7 @@
 -- Spans of numbers in groups: how many spans of a group cover a number, and which span is one too many.
 use Rattle.std.specs.Prelude.{◌≡◌, ◌≤◌, ◌<◌, ℕ, Bool, true, ◌&&◌, List, take, count_by, Option, Some, None, nat_le}
 use Rattle.std.specs.List.{slice_get}
-use Rattle.std.specs.Ordering.{is_eq}
+use Rattle.std.specs.Ordering.{is_eq, is_lt}
 use Rattle.cat_tables.specs.Table.{key_cmp}
 use Rattle.cat_tables.specs.Validity.{is_before}
 
@@ -42,3 +42,21 @@ IsWithin limit spans = (g : List ℕ) (s : ℕ) → depth_at g s spans ≤ limit
 -- some number is covered by more
 abbrev pub IsExceeded : ℕ → List Extent → Type 0
 IsExceeded limit spans = (g : List ℕ) × (s : ℕ) × (limit < depth_at g s spans)
+
+-- ---- of rows that rise by key
+
+module _ {R : Type 0} (key : R → List ℕ) (span : R → Extent) where
+  -- a row below this one that lies in its group over a number
+  abbrev pub is_under : R → ℕ → R → Bool
+  is_under r s q = is_lt (key_cmp (key q) (key r)) && (is_in (span r).group (span q) && covers s (span q))
+
+  -- the row is one too many: it covers a number that as many rows below it in its group cover as may
+  abbrev pub IsRowPast : ℕ → List R → R → Type 0
+  IsRowPast limit rows r = (s : ℕ) × (covers s (span r) ≡ true) × (limit ≤ count_by (is_under r s) rows)
+
+  -- the place of the first row that is one too many, if there is one
+  abbrev pub IsFirstRowPast : ℕ → List R → Option ℕ → Type 0
+  IsFirstRowPast limit rows None = (i : ℕ) (r : R) → slice_get rows i ≡ Some r → IsRowPast limit rows r → ⊥
+  IsFirstRowPast limit rows (Some i) =
+      (r : R) × (slice_get rows i ≡ Some r) × IsRowPast limit rows r
+      × ((j : ℕ) (q : R) → slice_get rows j ≡ Some q → IsRowPast limit rows q → is_lt (key_cmp (key q) (key r)) ≡ true → ⊥)
