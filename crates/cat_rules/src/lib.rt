@@ -1,0 +1,25 @@
+//! The rules of a sane catalogue: for each of them the first row that breaks it.
+#![tactic(auto)]
+
+mod bad_row;
+mod checked;
+mod column_stats_rule;
+mod dated;
+mod history_rule;
+mod id_rule;
+mod interval_rule;
+mod kept;
+mod layout_rule;
+mod lookup;
+mod order;
+mod readable;
+mod rule;
+mod stats_rule;
+
+pub use bad_row::BadRow;
+pub use column_stats_rule::first_bad_column_stats;
+pub use history_rule::first_bad_snapshot;
+pub use id_rule::first_bad_id;
+pub use interval_rule::first_bad_interval;
+pub use layout_rule::first_bad_layout;
+pub use stats_rule::first_bad_stats;

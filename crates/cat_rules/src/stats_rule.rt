@@ -1,0 +1,64 @@
+ghost use Rattle.std.specs.Prelude.{◌≡◌, ◌||◌, not};
+ghost use Rattle.cat_rows.specs.Batches.{holds, tables_of};
+ghost use Rattle.cat_rules.specs.Counters.{IsStatsBad, has_large_counter, stats_of};
+ghost use Rattle.cat_rules.specs.First.{FirstBad};
+ghost use Rattle.cat_rules.specs.Places as places;
+
+use crate::order::sooner;
+use crate::rule::{RowRule, first_bad};
+use cat_rows::{CatRows, Key, TableRow, TableStatsRow};
+
+/// The last value of a counter of ids.
+pub(crate) const LAST_ID: u64 = 1 << 62;
+
+/// The last value of a counter of field ids.
+const LAST_FIELD: u64 = 2_147_483_647;
+
+/// A table without a row of statistics is bad, and that row is what is missing.
+#[derive(Drop)]
+struct LacksStats<'a> {
+    rows: &'a CatRows,
+}
+
+impl RowRule<TableRow> for LacksStats<'_> {
+    ghost is_bad = { λ rule r. not (holds (tables_of rule.rows.now) (stats_of r)) };
+
+    ghost name = { stats_of };
+
+    fn judge(&self, row: &TableRow) -> Option<Key> {
+        let key = Key::TableStats(row.table_id);
+        if self.rows.holds(&key) {
+            None
+        } else {
+            Some(key)
+        }
+    }
+}
+
+/// A row of statistics with a counter past its last value is bad.
+#[derive(Drop)]
+struct LargeCounter;
+
+impl RowRule<TableStatsRow> for LargeCounter {
+    ghost is_bad = { λ rule r. has_large_counter r };
+
+    ghost name = { places.of_table_stats };
+
+    fn judge(&self, row: &TableStatsRow) -> Option<Key> {
+        if row.next_row_id > LAST_ID || row.next_field_id > LAST_FIELD {
+            Some(Key::TableStats(row.table_id))
+        } else {
+            None
+        }
+    }
+}
+
+/// The first bad row of the rule about statistics of tables: each table has its row, with counters up to their last
+/// values.
+pub fn first_bad_stats(rows: &CatRows) -> Option<Key>
+    ensures { FirstBad (IsStatsBad (tables_of rows.now)) result }
+{
+    let missing = first_bad(&LacksStats { rows }, rows.table());
+    let large = first_bad(&LargeCounter, rows.table_stats());
+    sooner(missing, large)
+}
