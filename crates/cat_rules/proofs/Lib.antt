@@ -1,7 +1,7 @@
 pub mod FirstLemmas
-mod LayoutLemmas
+pub mod LayoutLemmas
 pub mod SnapshotLemmas
 pub mod CheckedLemmas
-mod LookupLemmas
-mod KeptLemmas
+pub mod LookupLemmas
+pub mod KeptLemmas
 pub mod ColumnLemmas

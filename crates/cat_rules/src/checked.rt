@@ -10,7 +10,7 @@ use lake_types::NoMemory;
 use std::alloc::Global;
 
 /// A test of single rows that takes memory.
-pub(crate) trait CheckedRule<R> {
+pub trait CheckedRule<R> {
     /// Which rows are bad.
     ghost Bad: { Self → R → Type 0 };
 
@@ -23,7 +23,7 @@ pub(crate) trait CheckedRule<R> {
 }
 
 /// The first of the keys that bad rows name. Rows stand in the order of these keys.
-pub(crate) fn first_checked<R, T: CheckedRule<R>>(
+pub fn first_checked<R, T: CheckedRule<R>>(
     alloc: Global,
     rule: &T,
     rows: &[R],

@@ -14,7 +14,7 @@ use lake_types::NoMemory;
 use std::alloc::Global;
 
 /// Whether a table has statistics, and its next field id isn't past this one.
-pub(crate) fn is_field_past(rows: &CatRows, table: u64, field: u64) -> bool
+pub fn is_field_past(rows: &CatRows, table: u64, field: u64) -> bool
     ensures { Decides result (IsFieldPast (tables_of rows.now) table field) }
 {
     match find_row(rows.table_stats(), &table) {

@@ -13,7 +13,7 @@ pub struct Kept {
 }
 
 /// The newest snapshot.
-pub(crate) fn newest_of(rows: &[SnapshotRow]) -> Option<&SnapshotRow>
+pub fn newest_of(rows: &[SnapshotRow]) -> Option<&SnapshotRow>
     ensures { option_copied result ≡ newest rows.now }
 {
     rows.last()
@@ -28,7 +28,7 @@ fn id_of(row: Option<&SnapshotRow>) -> u64
     }
 }
 
-pub(crate) fn kept_of(rows: &[SnapshotRow]) -> Kept
+pub fn kept_of(rows: &[SnapshotRow]) -> Kept
     ensures { result ≡ spec.kept_of rows.now }
 {
     Kept {

@@ -17,9 +17,15 @@ mod rule;
 mod stats_rule;
 
 pub use bad_row::BadRow;
-pub use column_stats_rule::first_bad_column_stats;
+pub use checked::{CheckedRule, first_checked};
+pub use column_stats_rule::{first_bad_column_stats, is_field_past};
 pub use history_rule::first_bad_snapshot;
 pub use id_rule::first_bad_id;
 pub use interval_rule::first_bad_interval;
+pub use kept::{Kept, kept_of, newest_of};
 pub use layout_rule::first_bad_layout;
+pub use lookup::newest_row;
+pub use order::sooner;
+pub use readable::{is_unreadable, type_of};
+pub use rule::{RowRule, first_bad};
 pub use stats_rule::first_bad_stats;

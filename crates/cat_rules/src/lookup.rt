@@ -28,7 +28,7 @@ fn rows_upto(rows: &[ColumnRow], table: u64, column: u64) -> usize
 }
 
 /// The row of a column with the greatest begin. A column's rows stand together and rise by their begin.
-pub(crate) fn newest_row(rows: &[ColumnRow], table: u64, column: u64) -> Option<&ColumnRow>
+pub fn newest_row(rows: &[ColumnRow], table: u64, column: u64) -> Option<&ColumnRow>
     requires { RisesByKey column_key rows.now }
     ensures { option_copied result ≡ spec.newest_row table column rows.now }
 {

@@ -33,18 +33,14 @@ fn type_text(ty: ColType) -> &'static str
 }
 
 /// The type that has this text in the catalogue.
-pub(crate) fn type_of(text: &str) -> Option<ColType>
+pub fn type_of(text: &str) -> Option<ColType>
     ensures { result ≡ spec.type_of text.now }
 {
     TYPES.iter().copied().find(|ty| type_text(*ty) == text)
 }
 
 /// Whether there is a text, and no value of the type has it.
-pub(crate) fn is_unreadable(
-    alloc: Global,
-    type_text: &str,
-    text: &Option<Words>,
-) -> Result<bool, NoMemory>
+pub fn is_unreadable(alloc: Global, type_text: &str, text: &Option<Words>) -> Result<bool, NoMemory>
     ensures { IfOk result (λ yes. Decides yes (spec.IsUnreadable type_text.now text.now)) }
 {
     let Some(text) = text else {
