@@ -14,7 +14,7 @@ use Rattle.cat_rules.specs.Rows.{SomeOf, Names, NamesIf}
 
 -- ---- the order of keys
 
-sooner_then : (i j k : Key) → is_sooner i j ≡ true → is_sooner j k ≡ true → is_sooner i k ≡ true
+pub sooner_then : (i j k : Key) → is_sooner i j ≡ true → is_sooner j k ≡ true → is_sooner i k ≡ true
 sooner_then i j k p q = ap is_lt (nat_list_cmp_total.trans (place i) (place j) (place k) (less_is _ p) (less_is _ q))
 
 pub not_sooner_itself : (k : Key) → is_sooner k k ≡ true → ⊥

@@ -1,7 +1,9 @@
 pub mod FirstLemmas
-mod LayoutLemmas
+pub mod LayoutLemmas
 pub mod SnapshotLemmas
-mod KeptLemmas
+pub mod CheckedLemmas
+pub mod LookupLemmas
+pub mod KeptLemmas
 pub mod ColumnLemmas
-mod SightLemmas
-mod ReferLemmas
+pub mod SightLemmas
+pub mod DatedLemmas

@@ -1,5 +1,5 @@
 -- What kept snapshots see, told from the intervals alone.
-use Rattle.std.proofs.Common.{◌≡◌, ℕ, ◌<◌, ◌≤◌, ◌⊎◌, inl, inr, ⊎_elim, Bool, true, false, ◌&&◌, ◌||◌, List, [], ◌∷◌, Option, Some, None, refl, sym, ap, ◌∙◌, subst, true≢false, arith, Decides, max}
+use Rattle.std.proofs.Common.{◌≡◌, ℕ, ◌<◌, ◌≤◌, ◌⊎◌, inl, inr, ⊎_elim, Bool, true, false, ◌&&◌, ◌||◌, List, [], ◌∷◌, Option, Some, None, refl, sym, ap, ◌∙◌, subst, true≢false, arith, Decides, max, min}
 use Rattle.std.specs.Prelude.{nat_lt, nat_le}
 use Rattle.std.specs.List.{AllByRecursion}
 use Rattle.std.proofs.lemmas.Bool.{and_right, cases_lt, lt-ltb, lt-leb, le-leb, le-ltb}
@@ -273,3 +273,27 @@ module _ (t : Tables) (up : RisesByKey snapshot_key t.snapshot) (whole : Holds (
             (λ lt. inl (lt-ltb _ _ (⊎_elim (λ is. omega (arith, low, lt, is)) (λ is. omega (arith, sees.0, lt, is)) (max_bounds kept.first (v.begin r)).2)))
             (λ over. inr (ends_sooner_from (v.end r) (w.end q) s sees.1 over))
             (hidden_is w s q some.2.1))
+
+  -- the kept snapshot nearest to a number
+  abbrev pub clip : ℕ → ℕ
+  clip s = max (kept_of t.snapshot).first (min s (kept_of t.snapshot).newest)
+
+  pub clip_kept : (s : ℕ) → IsKept t (clip s)
+  clip_kept s =
+      let kept = kept_of t.snapshot in
+      let low : kept.first ≤ clip s = omega arith in
+      let top : clip s ≤ kept.newest = omega (arith, some_kept) in
+      kept_range t (clip s) up whole low top
+
+  -- A row that is seen at a number is seen at the kept snapshot nearest to it. So "at some number" and "at some kept
+  -- snapshot" agree.
+  pub clip_sees : {R : Type 0} (v : Validity R) (r : R) → IsDated t v r → (s : ℕ) → is_visible v s r ≡ true → is_visible v (clip s) r ≡ true
+  clip_sees v r d s h =
+      let right = dated_ends v r d in
+      let sees = visible_is v s r h in
+      let begins : v.begin r ≤ clip s = omega (arith, right.0, sees.0) in
+      visible_from v (clip s) r begins (opens (v.end r) right.1 sees.1)
+    where
+      opens : (e : Option ℕ) → EndsRight (kept_of t.snapshot) (v.begin r) e → IsOpenAt s e → IsOpenAt (clip s) e
+      opens None right h = tt
+      opens (Some n) right h = omega (arith, right.1, right.2, h)

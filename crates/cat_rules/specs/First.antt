@@ -21,3 +21,8 @@ sooner (Some k) (Some j) = if is_sooner j k then Some j else Some k
 -- the key that a row names, where it is bad
 abbrev pub told : {R : Type 0} → (R → Key) → (R → Bool) → R → Option Key
 told name is_bad r = if is_bad r then Some (name r) else None
+
+-- the key, exactly where this is bad
+abbrev pub Judges : Type 0 → Key → Option Key → Type 0
+Judges Bad k None = Bad → ⊥
+Judges Bad k (Some j) = Bad × (j ≡ k)

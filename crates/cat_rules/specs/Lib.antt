@@ -2,9 +2,11 @@ pub mod Rows
 pub mod Places
 pub mod First
 pub mod History
+pub mod Lookups
+pub mod Readable
+pub mod ColumnStats
 pub mod Intervals
 pub mod Counters
 pub mod Steps
 pub mod Named
 pub mod Sight
-pub mod Schemas

@@ -96,7 +96,7 @@ fn first_wrong(kept: Kept, rows: &[ColumnRow]) -> Option<Key>
 pub fn first_bad_interval(rows: &CatRows) -> Option<Key>
     ensures { FirstBad (IsIntervalBad (tables_of rows.now)) result }
 {
-    let kept = kept_of(rows);
+    let kept = kept_of(rows.snapshot());
     let rule = Misdated { kept };
     let schema = first_bad(&rule, rows.schema());
     let table = first_bad(&rule, rows.table());

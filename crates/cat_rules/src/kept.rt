@@ -1,12 +1,9 @@
 ghost use Rattle.std.specs.Prelude.{◌≡◌};
 ghost use Rattle.std.specs.Option.{option_copied};
-ghost use Rattle.cat_tables.specs.Table.{RisesByKey};
-ghost use Rattle.cat_rows.specs.Batches.{tables_of};
-ghost use Rattle.cat_rows.specs.Keys.{snapshot_key};
 ghost use Rattle.cat_rules.specs.Intervals as spec;
 ghost use Rattle.cat_rules.specs.Rows.{newest};
 
-use cat_rows::{CatRows, SnapshotRow};
+use cat_rows::SnapshotRow;
 
 /// The kept snapshots: all from the first to the newest.
 #[derive(Clone, Copy, Debug)]
@@ -16,7 +13,7 @@ pub struct Kept {
 }
 
 /// The newest snapshot.
-pub(crate) fn newest_of(rows: &[SnapshotRow]) -> Option<&SnapshotRow>
+pub fn newest_of(rows: &[SnapshotRow]) -> Option<&SnapshotRow>
     ensures { option_copied result ≡ newest rows.now }
 {
     rows.last()
@@ -31,13 +28,11 @@ fn id_of(row: Option<&SnapshotRow>) -> u64
     }
 }
 
-pub(crate) fn kept_of(rows: &CatRows) -> Kept
-    ensures kept { result ≡ spec.kept_of (tables_of rows.now).snapshot }
-    ensures rises { RisesByKey snapshot_key (tables_of rows.now).snapshot }
+pub fn kept_of(rows: &[SnapshotRow]) -> Kept
+    ensures { result ≡ spec.kept_of rows.now }
 {
-    let snapshots = rows.snapshot();
     Kept {
-        first: id_of(snapshots.first()),
-        newest: id_of(newest_of(snapshots)),
+        first: id_of(rows.first()),
+        newest: id_of(newest_of(rows)),
     }
 }

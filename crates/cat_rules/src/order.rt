@@ -65,7 +65,7 @@ fn is_sooner(key: &Key, other: &Key) -> bool
 }
 
 /// The one that stands before the other.
-pub(crate) fn sooner(first: Option<Key>, second: Option<Key>) -> Option<Key>
+pub fn sooner(first: Option<Key>, second: Option<Key>) -> Option<Key>
     ensures { result ≡ spec.sooner first second }
 {
     match (first, second) {

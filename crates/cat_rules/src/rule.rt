@@ -7,7 +7,7 @@ use crate::order::sooner;
 use cat_rows::Key;
 
 /// A test of single rows.
-pub(crate) trait RowRule<R> {
+pub trait RowRule<R> {
     /// Whether a row is bad.
     ghost is_bad: { Self → R → Bool };
 
@@ -20,7 +20,7 @@ pub(crate) trait RowRule<R> {
 }
 
 /// The first of the keys that bad rows name.
-pub(crate) fn first_bad<R, T: RowRule<R>>(rule: &T, rows: &[R]) -> Option<Key>
+pub fn first_bad<R, T: RowRule<R>>(rule: &T, rows: &[R]) -> Option<Key>
     ensures { FirstBad (NamesIf T.name (T.is_bad rule.now) rows.now) result }
 {
     let mut first = None;

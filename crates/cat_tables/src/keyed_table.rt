@@ -48,6 +48,17 @@ fn place_of<R: Keyed>(rows: &[R], key: &R::Key) -> Option<usize>
     rows.binary_search_by(|r| r.compare_key(key)).ok()
 }
 
+/// The row of a key, among rows that rise by key.
+pub fn find_row<'a, R: Keyed>(rows: &'a [R], key: &R::Key) -> Option<&'a R>
+    requires { RisesByKey R.key rows.now }
+    ensures { option_copied result ≡ row_of R.key (R.parts key.now) rows.now }
+{
+    match place_of(rows, key) {
+        Some(at) => Some(&rows[at]),
+        None => None,
+    }
+}
+
 fn put_row<R: Keyed>(rows: &mut Vec<R>, row: R)
     requires rises { RisesByKey R.key rows.old.items }
     requires room { vec_len rows.old < vec_capacity rows.old }
@@ -111,10 +122,7 @@ impl<R: Keyed> KeyedTable<R> {
     pub fn get(&self, key: &R::Key) -> Option<&R>
         ensures { option_copied result ≡ row_of R.key (R.parts key.now) self.now.rows }
     {
-        match place_of(self.rows.as_slice(), key) {
-            Some(at) => Some(&self.rows[at]),
-            None => None,
-        }
+        find_row(self.rows.as_slice(), key)
     }
 
     /// Makes room for more rows. The rows stay, whatever the answer.

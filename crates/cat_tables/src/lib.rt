@@ -7,5 +7,5 @@ mod keyed_table;
 mod versioned;
 
 pub use keyed::Keyed;
-pub use keyed_table::KeyedTable;
+pub use keyed_table::{KeyedTable, find_row};
 pub use versioned::Versioned;

@@ -1,3 +1,4 @@
+pub mod AllowedLemmas
 pub mod CellLemmas
 pub mod TextLemmas
 pub mod NumberLemmas

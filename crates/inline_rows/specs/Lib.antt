@@ -1,4 +1,7 @@
+pub mod Allowed
+pub mod Content
 pub mod Finding
 pub mod Laws
 pub mod Reading
 pub mod Spelling
+pub mod Tests

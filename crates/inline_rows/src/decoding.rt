@@ -1,15 +1,16 @@
 ghost use Rattle.std.specs.Prelude.{◌≡◌, ◌≢◌, true, false, Ok, None, IfOk, IfErr, IfSome};
 ghost use Rattle.std.specs.Str.{is_utf8};
-ghost use Rattle.inline_rows.specs.Finding.{Finds, Stops};
+ghost use Rattle.inline_rows.specs.Finding.{Finds, FindsCell, FindsContent, Stops};
 ghost use Rattle.inline_rows.specs.Laws.{Spells, SpellsNone};
 ghost use Rattle.inline_rows.specs.Reading as spec;
 ghost use Rattle.inline_rows.specs.Spelling.{is_past};
 ghost use Rattle.inline_rows.specs.declared.fault.CellsFault.TheVariants.{Memory};
 
+use crate::content::Content;
 use crate::fault::CellsFault;
 use crate::numbers::{parse_binary, parse_i32, parse_i64, parse_unsigned};
-use lake_types::{Blob, Value, Words};
-use std::alloc::{AllocError, Global};
+use lake_types::Value;
+use std::alloc::Global;
 use std::str;
 
 /// The cells that the bytes spell: the inverse of `encode_cells`.
@@ -46,13 +47,13 @@ fn read_cells(
     let mut last = None;
     let mut rest = bytes;
     for _turn in 0..count {
-        let Some((cell, behind)) = cell_at(alloc, last, rest)? else {
+        let Some((cell, behind)) = cell_at(last, rest) else {
             return Err(CellsFault::BadCells {
                 at: place(end, rest),
             });
         };
         last = Some(cell.0);
-        cells.push(cell)?;
+        cells.push((cell.0, cell.1.to_value(alloc)?))?;
         rest = behind;
     }
     if rest.is_empty() {
@@ -73,20 +74,12 @@ fn place(end: usize, bytes: &[u8]) -> u64
 
 /// A cell past the field `last`, and the bytes behind it.
 #[tactic(auto, unfolding(crate::specs::Reading::cell_in))]
-fn cell_at<'a>(
-    alloc: Global,
-    last: Option<u32>,
-    bytes: &'a [u8],
-) -> Result<Option<((u32, Value), &'a [u8])>, AllocError>
-    ensures { IfOk result (λ found. Finds found (spec.cell_in last bytes.now)) }
+pub(crate) fn cell_at(last: Option<u32>, bytes: &[u8]) -> Option<((u32, Content<'_>), &[u8])>
+    ensures { FindsCell result (spec.cell_in last bytes.now) }
 {
-    let Some((field, rest)) = field_at(last, bytes) else {
-        return Ok(None);
-    };
-    match value_at(alloc, rest)? {
-        Some((value, behind)) => Ok(Some(((field, value), behind))),
-        None => Ok(None),
-    }
+    let (field, rest) = field_at(last, bytes)?;
+    let (content, behind) = content_at(rest)?;
+    Some(((field, content), behind))
 }
 
 fn field_at(last: Option<u32>, bytes: &[u8]) -> Option<(u32, &[u8])>
@@ -110,59 +103,51 @@ fn is_past(last: Option<u32>, field: u32) -> bool
     }
 }
 
-fn value_at<'a>(alloc: Global, bytes: &'a [u8]) -> Result<Option<(Value, &'a [u8])>, AllocError>
-    ensures { IfOk result (λ found. Finds found (spec.value_in bytes.now)) }
+fn content_at(bytes: &[u8]) -> Option<(Content<'_>, &[u8])>
+    ensures { FindsContent result (spec.value_in bytes.now) }
 {
     let [tag, rest @ ..] = bytes else {
-        return Ok(None);
+        return None;
     };
     match *tag {
-        0 => Ok(Some((Value::Null, rest))),
-        1 => Ok(Some((Value::Bool(false), rest))),
-        2 => Ok(Some((Value::Bool(true), rest))),
-        3 => Ok(integer_at(rest)),
-        4 => text_at(alloc, rest),
-        5 => bytes_at(alloc, rest),
-        6 => Ok(date_at(rest)),
-        _ => Ok(None),
+        0 => Some((Content::Null, rest)),
+        1 => Some((Content::Bool(false), rest)),
+        2 => Some((Content::Bool(true), rest)),
+        3 => integer_at(rest),
+        4 => text_at(rest),
+        5 => bytes_at(rest),
+        6 => date_at(rest),
+        _ => None,
     }
 }
 
-fn integer_at(bytes: &[u8]) -> Option<(Value, &[u8])>
-    ensures { Finds result (spec.integer_in bytes.now) }
+fn integer_at(bytes: &[u8]) -> Option<(Content<'_>, &[u8])>
+    ensures { FindsContent result (spec.integer_in bytes.now) }
 {
     let (number, behind) = parse_i64(bytes)?;
-    Some((Value::Int(number), behind))
+    Some((Content::Int(number), behind))
 }
 
-fn date_at(bytes: &[u8]) -> Option<(Value, &[u8])>
-    ensures { Finds result (spec.date_in bytes.now) }
+fn date_at(bytes: &[u8]) -> Option<(Content<'_>, &[u8])>
+    ensures { FindsContent result (spec.date_in bytes.now) }
 {
     let (day, behind) = parse_i32(bytes)?;
-    Some((Value::Date(day), behind))
+    Some((Content::Date(day), behind))
 }
 
-fn bytes_at(alloc: Global, bytes: &[u8]) -> Result<Option<(Value, &[u8])>, AllocError>
-    ensures { IfOk result (λ found. Finds found (spec.bytes_in bytes.now)) }
+fn bytes_at(bytes: &[u8]) -> Option<(Content<'_>, &[u8])>
+    ensures { FindsContent result (spec.bytes_in bytes.now) }
 {
-    let Some((bytes, behind)) = parse_binary(bytes) else {
-        return Ok(None);
-    };
-    let blob = Blob::of(alloc, bytes)?;
-    Ok(Some((Value::Bytes(blob), behind)))
+    let (bytes, behind) = parse_binary(bytes)?;
+    Some((Content::Bytes(bytes), behind))
 }
 
-fn text_at(alloc: Global, bytes: &[u8]) -> Result<Option<(Value, &[u8])>, AllocError>
-    ensures { IfOk result (λ found. Finds found (spec.text_in bytes.now)) }
+fn text_at(bytes: &[u8]) -> Option<(Content<'_>, &[u8])>
+    ensures { FindsContent result (spec.text_in bytes.now) }
 {
-    let Some((bytes, behind)) = parse_binary(bytes) else {
-        return Ok(None);
-    };
-    let Some(text) = text_of(bytes) else {
-        return Ok(None);
-    };
-    let words = Words::of(alloc, text)?;
-    Ok(Some((Value::Text(words), behind)))
+    let (bytes, behind) = parse_binary(bytes)?;
+    let text = text_of(bytes)?;
+    Some((Content::Text(text), behind))
 }
 
 /// The bytes as a text, where they are UTF-8.

@@ -2,12 +2,15 @@
 //! cells by rising field id.
 #![tactic(auto)]
 
+mod allowed;
+mod content;
 mod decoding;
 mod encoding;
 mod fault;
 pub mod laws;
 mod numbers;
 
+pub use allowed::cells_ok;
 pub use decoding::decode_cells;
 pub use encoding::encode_cells;
 pub use fault::CellsFault;

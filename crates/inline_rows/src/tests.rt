@@ -1,8 +1,8 @@
 ghost use Rattle.std.specs.Prelude.{IfOk, None};
 ghost use Rattle.inline_rows.specs.Spelling.{RisesFrom};
 
-use crate::{CellsFault, decode_cells, encode_cells};
-use lake_types::{Value, Words};
+use crate::{CellsFault, cells_ok, decode_cells, encode_cells};
+use lake_types::{ColType, Column, Value, Words};
 use std::alloc::{AllocError, Global};
 use std::test::Fail;
 
@@ -58,5 +58,30 @@ fn places_of_what_is_wrong(rt: HostRuntime) -> Result<(), Fail> {
     for (bytes, place) in cases.iter() {
         assert_eq!(rt; is_bad_at(alloc, bytes, *place), true);
     }
+    Ok(())
+}
+
+fn column(alloc: Global, ty: ColType) -> Result<Column, AllocError> {
+    Ok(Column {
+        field: 2,
+        name: Words::of(alloc, "a")?,
+        ty,
+        initial: Value::Null,
+        default_value: Value::Null,
+        nulls: true,
+    })
+}
+
+#[test]
+fn cells_that_a_row_may_hold(rt: HostRuntime) -> Result<(), Fail> {
+    let alloc = rt.alloc();
+    let texts = [column(alloc, ColType::Varchar)?];
+    let numbers = [column(alloc, ColType::Int64)?];
+    let cut: &[u8] = &BYTES[..8];
+    assert_eq!(rt; cells_ok(&BYTES[..], texts.as_slice(), Some(3)), true);
+    assert_eq!(rt; cells_ok(&BYTES[..], texts.as_slice(), None), true);
+    assert_eq!(rt; cells_ok(&BYTES[..], texts.as_slice(), Some(2)), false);
+    assert_eq!(rt; cells_ok(&BYTES[..], numbers.as_slice(), Some(3)), false);
+    assert_eq!(rt; cells_ok(cut, texts.as_slice(), Some(3)), false);
     Ok(())
 }

@@ -2,3 +2,5 @@ pub mod Answers
 pub mod Frame
 pub mod Cells
 pub mod Reading
+pub mod Joining
+pub mod Sheets

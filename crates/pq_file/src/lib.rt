@@ -8,9 +8,11 @@ mod groups;
 mod parts;
 mod ranges;
 mod reading;
+mod sound;
 
 pub use fault::FileFault;
 pub use reading::{read_columns, read_file};
+pub use sound::reads_sound;
 
 #[cfg(test)]
 mod tests;

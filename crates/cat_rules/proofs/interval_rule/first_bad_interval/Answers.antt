@@ -14,7 +14,7 @@ pub returns : goal.returns
 returns c =
     let t = tables_of c.args.rows.now in
     let kept = c.kept_of-kept.result in
-    let is : kept ≡ kept_of t.snapshot = c.kept_of-kept.ensures.kept in
+    let is : kept ≡ kept_of t.snapshot = c.kept_of-kept.ensures ∙ ap kept_of c.snapshot.ensures.rows in
     let Schema : Kept → Key → Type 0 = λ k. NamesIf of_schema (is_misdated k schema_validity) t.schema in
     let Table : Kept → Key → Type 0 = λ k. NamesIf of_table (is_misdated k table_validity) t.table in
     let Column : Kept → Key → Type 0 = λ k. Names of_column (IsWronglyDated k t.column) t.column in

@@ -1,5 +1,7 @@
-use Rattle.std.proofs.Common.{◌≡◌, ◌∙◌, [], Some, None, rules}
+use Rattle.std.proofs.Common.{◌≡◌, ◌∙◌, ℕ, [], Some, None, rules}
 use Rattle.std.proofs.lemmas.List.{append-nil}
+use Rattle.lake_types.specs.declared.value.Value.{Value}
+use Rattle.inline_rows.specs.Content.{held}
 use Rattle.inline_rows.specs.Reading.{cell_in, cells_in}
 use Rattle.inline_rows.proofs.CellLemmas.{cells_turn, cells_stop, cells_done}
 use Rattle.inline_rows.proofs.decoding.read_cells.Goals as goal
@@ -12,8 +14,9 @@ returns-in_default-clause-bad c =
 
 pub loop-turn-preserved : goal.loop-turn-preserved
 loop-turn-preserved c =
-    let found : cell_in c.loop-turn.last c.loop-turn.rest.now ≡ Some (c.in-Some.cell, c.in-Some.behind.now) = search rules in
-    let turn = cells_turn c.loop-turn.cells.items c.args.end c.args.count c.loop-turn._turn c.loop-turn.last c.loop-turn.rest.now c.in-Some.cell c.in-Some.behind.now (cells_in c.args.end c.args.count None c.args.bytes.now) c.loop-turn-test.true found c.loop-turn.invariant in
+    let cell : ℕ × Value = (c.in-Some.cell.0, held c.in-Some.cell.1) in
+    let found : cell_in c.loop-turn.last c.loop-turn.rest.now ≡ Some (cell, c.in-Some.behind.now) = search rules in
+    let turn = cells_turn c.loop-turn.cells.items c.args.end c.args.count c.loop-turn._turn c.loop-turn.last c.loop-turn.rest.now cell c.in-Some.behind.now (cells_in c.args.end c.args.count None c.args.bytes.now) c.loop-turn-test.true found c.loop-turn.invariant in
     grind (rules, turn)
 
 pub returns-then-is_empty-clause-ok : goal.returns-then-is_empty-clause-ok

@@ -1,0 +1,169 @@
+-- Rows with one value stand together where the rows rise by it, and the last of them is the last row up to the value.
+use Rattle.std.proofs.Common.{◌≡◌, ◌≢◌, ℕ, zero, suc, ◌+◌, ◌-◌, ◌<◌, ◌≤◌, Bool, true, false, not, cond, List, [], ◌∷◌, Option, Some, None, Ordering, Less, Equal, Greater, is_eq, is_gt, length, get_or, refl, sym, ap, subst, ◌∙◌, true≢false, arith, filter}
+use Rattle.std.specs.List.{AllByRecursion, prefix_len}
+use Rattle.std.specs.List.Sorted.{IsPartitionedBy}
+use Rattle.std.specs.Ordering.{nat_cmp, ordering_reverse, ordering_then}
+use Rattle.std.proofs.lemmas.Cmp.{nat_list_cmp_total}
+use Rattle.cat_tables.specs.Table.{IsAscending, IsBelow, RisesByKey, has_key, key_cmp}
+use Rattle.cat_tables.proofs.KeyLemmas.{key_eq}
+use Rattle.cat_rows.specs.Keys.{column_key}
+use Rattle.cat_rows.specs.declared.schemas.ColumnRow.{ColumnRow}
+use Rattle.cat_rules.specs.Lookups.{column_of, last}
+use Rattle.cat_rules.proofs.FirstLemmas.{ascends_like}
+
+-- ---- the order of values
+
+pub upward : (a b k : List ℕ) → (key_cmp a b ≢ Greater) → key_cmp a k ≡ Greater → key_cmp b k ≡ Greater
+upward a b k le gt = go (key_cmp a b) refl
+  where
+    under : key_cmp k a ≡ Less
+    under = nat_list_cmp_total.antisymm k a ∙ ap ordering_reverse gt
+
+    go : (o : Ordering) → key_cmp a b ≡ o → key_cmp b k ≡ Greater
+    go Less e = nat_list_cmp_total.antisymm b k ∙ ap ordering_reverse (nat_list_cmp_total.trans k a b under e)
+    go Equal e = subst (λ x. key_cmp x k ≡ Greater) (key_eq a b (ap is_eq e)) gt
+    go Greater e = absurd (le e)
+
+-- a value between two equal ones
+pub between : (a b k : List ℕ) → (key_cmp a b ≢ Greater) → is_eq (key_cmp a k) ≡ true → is_gt (key_cmp b k) ≡ false → is_eq (key_cmp b k) ≡ true
+between a b k le same upto = go (key_cmp a b) refl
+  where
+    is : a ≡ k
+    is = key_eq a k same
+
+    go : (o : Ordering) → key_cmp a b ≡ o → is_eq (key_cmp b k) ≡ true
+    go Less e =
+        let past : key_cmp b k ≡ Greater = nat_list_cmp_total.antisymm b k ∙ ap ordering_reverse (subst (λ x. key_cmp x b ≡ Less) is e) in
+        absurd (true≢false (sym (ap is_gt past) ∙ upto))
+    go Equal e = subst (λ x. is_eq (key_cmp x k) ≡ true) (key_eq a b (ap is_eq e)) same
+    go Greater e = absurd (le e)
+
+module _ {R : Type 0} (value : R → List ℕ) (k : List ℕ) where
+  abbrev pub Rises : List R → Type 0
+  Rises = IsAscending (λ a b. key_cmp (value a) (value b) ≢ Greater)
+
+  abbrev pub is_upto : R → Bool
+  is_upto r = not (is_gt (key_cmp (value r) k))
+
+  abbrev is : R → Bool
+  is r = has_key value k r
+
+  -- the last row up to the value, if it has the value
+  abbrev pub found : List R → ℕ → Option R
+  found rows zero = None
+  found [] (suc n) = None
+  found (r ∷ rs) (suc zero) = cond (is r) (Some r) None
+  found (r ∷ rs) (suc (suc n)) = found rs (suc n)
+
+  above : (r : R) (rs : List R) → AllByRecursion (λ q. key_cmp (value r) (value q) ≢ Greater) rs → is_upto r ≡ false → filter is (r ∷ rs) ≡ []
+  above r rs up high = ap (λ b. cond b (r ∷ filter is rs) (filter is rs)) (not_here (key_cmp (value r) k) refl) ∙ rest rs up
+    where
+      past : key_cmp (value r) k ≡ Greater
+      past = greater (key_cmp (value r) k) high
+        where
+          greater : (o : Ordering) → not (is_gt o) ≡ false → o ≡ Greater
+          greater Less e = absurd (true≢false e)
+          greater Equal e = absurd (true≢false e)
+          greater Greater e = refl
+
+      not_here : (o : Ordering) → key_cmp (value r) k ≡ o → is_eq o ≡ false
+      not_here o e = ap is_eq (sym e ∙ past)
+
+      rest : (qs : List R) → AllByRecursion (λ q. key_cmp (value r) (value q) ≢ Greater) qs → filter is qs ≡ []
+      rest [] h = refl
+      rest (q ∷ qs) h = ap (λ b. cond b (q ∷ filter is qs) (filter is qs)) (ap is_eq (upward (value r) (value q) k h.0 past)) ∙ rest qs h.1
+
+  alone : (r : R) (rs : List R) → last (filter is rs) ≡ None → last (filter is (r ∷ rs)) ≡ cond (is r) (Some r) None
+  alone r rs none = go (is r) (filter is rs) none
+    where
+      go : (b : Bool) (qs : List R) → last qs ≡ None → last (cond b (r ∷ qs) qs) ≡ cond b (Some r) None
+      go true [] e = refl
+      go false [] e = refl
+      go b (q ∷ qs) e = absurd (some q qs e)
+        where
+          some : (q : R) (qs : List R) → last (q ∷ qs) ≡ None → ⊥
+          some q [] e = absurd (cc e)
+          some q (p ∷ qs) e = some p qs e
+
+  behind : (r q : R) (rs : List R) → (key_cmp (value r) (value q) ≢ Greater) → is_upto q ≡ true → last (filter is (r ∷ q ∷ rs)) ≡ last (filter is (q ∷ rs))
+  behind r q rs le low = go (is r) refl
+    where
+      upto : (b : Bool) → not b ≡ true → b ≡ false
+      upto true e = absurd (true≢false (sym e))
+      upto false e = refl
+
+      go : (b : Bool) → is r ≡ b → last (cond b (r ∷ filter is (q ∷ rs)) (filter is (q ∷ rs))) ≡ last (filter is (q ∷ rs))
+      go true e =
+          let also : is q ≡ true = between (value r) (value q) k le e (upto (is_gt (key_cmp (value q) k)) low) in
+          let whole : filter is (q ∷ rs) ≡ q ∷ filter is rs = ap (λ b. cond b (q ∷ filter is rs) (filter is rs)) also in
+          rw whole refl
+      go false e = refl
+
+  pub found_is : (rows : List R) → Rises rows → last (filter is rows) ≡ found rows (prefix_len is_upto rows)
+  found_is [] up = refl
+  found_is (r ∷ rs) up = go (is_upto r) refl (found_is rs up.1)
+    where
+      go : (b : Bool) → is_upto r ≡ b → last (filter is rs) ≡ found rs (prefix_len is_upto rs) → last (filter is (r ∷ rs)) ≡ found (r ∷ rs) (cond b (1 + prefix_len is_upto rs) 0)
+      go false e rest = ap last (above r rs up.0 e)
+      go true e rest = more rs up.0 rest (prefix_len is_upto rs) refl
+        where
+          more : (qs : List R) → AllByRecursion (λ q. key_cmp (value r) (value q) ≢ Greater) qs → last (filter is qs) ≡ found qs (prefix_len is_upto qs)
+              → (m : ℕ) → prefix_len is_upto qs ≡ m → last (filter is (r ∷ qs)) ≡ found (r ∷ qs) (1 + m)
+          more qs above rest zero e = alone r qs (rest ∙ ap (found qs) e)
+          more [] above rest (suc m) e = absurd (omega arith)
+          more (q ∷ qs) above rest (suc m) e =
+              let two : 1 + suc m ≡ suc (suc m) = omega arith in
+              let low : is_upto q ≡ true = first (is_upto q) refl in
+              rw two (behind r q qs above.0 low ∙ rest ∙ ap (found (q ∷ qs)) e)
+            where
+              first : (b : Bool) → is_upto q ≡ b → b ≡ true
+              first true f = refl
+              first false f = let none : prefix_len is_upto (q ∷ qs) ≡ 0 = ap (λ b. cond b (1 + prefix_len is_upto qs) 0) f in absurd (omega arith)
+
+  pub found_at : (rows : List R) (n : ℕ) (d : R) → n < length rows → found rows (suc n) ≡ cond (is (get_or rows n d)) (Some (get_or rows n d)) None
+  found_at [] n d lt = absurd (omega arith)
+  found_at (r ∷ rs) zero d lt = refl
+  found_at (r ∷ rs) (suc n) d lt = found_at rs n d (omega arith)
+
+  -- those up to the value stand in front of the others
+  pub parted : (rows : List R) → Rises rows → IsPartitionedBy is_upto rows
+  parted [] up i j d le lt h = absurd (omega arith)
+  parted (r ∷ rs) up zero zero d le lt h = h
+  parted (r ∷ rs) up (suc i) zero d le lt h = absurd (omega arith)
+  parted (r ∷ rs) up (suc i) (suc j) d le lt h = parted rs up.1 i j d (omega arith) (omega arith) h
+  parted (r ∷ rs) up zero (suc j) d le lt h = go (key_cmp (value r) k) refl
+    where
+      at : (qs : List R) (j : ℕ) → AllByRecursion (λ q. key_cmp (value r) (value q) ≢ Greater) qs → j < length qs → key_cmp (value r) (value (get_or qs j d)) ≢ Greater
+      at [] j all lt = absurd (omega arith)
+      at (q ∷ qs) zero all lt = all.0
+      at (q ∷ qs) (suc j) all lt = at qs j all.1 (omega arith)
+
+      go : (o : Ordering) → key_cmp (value r) k ≡ o → not (is_gt o) ≡ true
+      go Less e = refl
+      go Equal e = refl
+      go Greater e =
+          let q = get_or rs j d in
+          let past : key_cmp (value q) k ≡ Greater = upward (value r) (value q) k (at rs j up.0 (omega arith)) e in
+          absurd (true≢false (sym h ∙ ap (λ o. not (is_gt o)) past))
+
+-- rows that rise by their keys rise by the first two of three parts
+pub columns_rise : (rows : List ColumnRow) → RisesByKey column_key rows → IsAscending (λ a b. key_cmp (column_of a) (column_of b) ≢ Greater) rows
+columns_rise = ascends_like (IsBelow column_key) (λ a b. key_cmp (column_of a) (column_of b) ≢ Greater) (λ a b below. fronts (nat_cmp a.table_id b.table_id) (nat_cmp a.column_id b.column_id) (nat_cmp a.begin_snapshot b.begin_snapshot) below)
+  where
+    fronts : (x y z : Ordering) → ordering_then x (ordering_then y (ordering_then z Equal)) ≡ Less → ordering_then x (ordering_then y Equal) ≢ Greater
+    fronts Less y z e f = absurd (cc f)
+    fronts Greater y z e f = absurd (cc e)
+    fronts Equal Less z e f = absurd (cc f)
+    fronts Equal Equal z e f = absurd (cc f)
+    fronts Equal Greater z e f = absurd (cc e)
+
+module _ {R : Type 0} (value : R → List ℕ) (k : List ℕ) (rows : List R) (up : Rises value k rows) (n : ℕ) (count : n ≡ prefix_len (is_upto value k) rows) where
+  pub last_none : n ≡ 0 → None ≡ last (filter (has_key value k) rows)
+  last_none e = sym (found_is value k rows up ∙ ap (found value k rows) (sym count ∙ e))
+
+  pub last_at : (r : R) → (n ≡ 0 → ⊥) → n ≤ length rows → r ≡ get_or rows (n - 1) r → cond (has_key value k r) (Some r) None ≡ last (filter (has_key value k) rows)
+  last_at r some within e =
+      let one : n ≡ suc (n - 1) = omega arith in
+      let here : found value k rows (suc (n - 1)) ≡ cond (has_key value k (get_or rows (n - 1) r)) (Some (get_or rows (n - 1) r)) None = found_at value k rows (n - 1) r (omega arith) in
+      let whole : last (filter (has_key value k) rows) ≡ found value k rows (suc (n - 1)) = found_is value k rows up ∙ ap (found value k rows) (sym count ∙ one) in
+      sym (whole ∙ here ∙ ap (λ q. cond (has_key value k q) (Some q) None) (sym e))

@@ -1,0 +1,4 @@
+pub mod CountLemmas
+pub mod PastLemmas
+pub mod PointLemmas
+pub mod RowLemmas

@@ -1,0 +1,131 @@
+ghost use Rattle.std.specs.Prelude.{◌≡◌, ◌∷◌, ◌++◌, [], true, IfOk, OnOk};
+ghost use Rattle.std.specs.List.{list_all};
+ghost use Rattle.std.specs.String.{string_bytes};
+ghost use Rattle.hex.specs.Hex.{encode_lower};
+ghost use Rattle.line_tokens.specs.Tokens.{is_hex};
+ghost use Rattle.token_text.specs.Laws.{token_of};
+ghost use Rattle.token_text.specs.Spelled.{fixed, the_word};
+ghost use Rattle.stmt_text.specs.Printed as spec;
+
+use hex::encode;
+use lake_types::{Listed, Words};
+use line_tokens::{Kind, Token, TokenList};
+use std::alloc::{AllocError, Global};
+
+fn word_of(kind: Kind) -> &'static str
+    ensures { result.now ≡ the_word kind }
+{
+    match kind {
+        Kind::And => "AND",
+        Kind::Default => "DEFAULT",
+        Kind::False => "FALSE",
+        Kind::From => "FROM",
+        Kind::Is => "IS",
+        Kind::Not => "NOT",
+        Kind::Null => "NULL",
+        Kind::Or => "OR",
+        Kind::RowId => "ROWID",
+        Kind::Select => "SELECT",
+        Kind::Set => "SET",
+        Kind::Table => "TABLE",
+        Kind::To => "TO",
+        Kind::True => "TRUE",
+        Kind::Values => "VALUES",
+        Kind::Where => "WHERE",
+        Kind::Add => "ADD",
+        Kind::Alter => "ALTER",
+        Kind::At => "AT",
+        Kind::Begin => "BEGIN",
+        Kind::BigInt => "BIGINT",
+        Kind::Blob => "BLOB",
+        Kind::Boolean => "BOOLEAN",
+        Kind::Clean => "CLEAN",
+        Kind::Column => "COLUMN",
+        Kind::Commit => "COMMIT",
+        Kind::Compact => "COMPACT",
+        Kind::Create => "CREATE",
+        Kind::Data => "DATA",
+        Kind::Date => "DATE",
+        Kind::Delete => "DELETE",
+        Kind::Drop => "DROP",
+        Kind::Expire => "EXPIRE",
+        Kind::Flush => "FLUSH",
+        Kind::Insert => "INSERT",
+        Kind::Integer => "INTEGER",
+        Kind::Into => "INTO",
+        Kind::Rename => "RENAME",
+        Kind::Rollback => "ROLLBACK",
+        Kind::Schema => "SCHEMA",
+        Kind::SmallInt => "SMALLINT",
+        Kind::Snapshots => "SNAPSHOTS",
+        Kind::TinyInt => "TINYINT",
+        Kind::Type => "TYPE",
+        Kind::Update => "UPDATE",
+        Kind::Varchar => "VARCHAR",
+        Kind::Version => "VERSION",
+        _ => "",
+    }
+}
+
+/// The tokens of a line so far.
+#[derive(Drop)]
+pub struct Draft {
+    pub tokens: TokenList,
+    ghost typed: { list_all spec.is_typed tokens ≡ true },
+}
+
+impl Draft {
+    pub fn new(alloc: Global) -> Draft
+        ensures { result.tokens ≡ [] }
+    {
+        Draft {
+            tokens: Listed::new(alloc),
+        }
+    }
+
+    fn push(&mut self, alloc: Global, kind: Kind, text: &str) -> Result<(), AllocError>
+        requires { spec.has_digits kind text.now ≡ true }
+        ensures { OnOk result (self.new.tokens ≡ self.old.tokens ++ token_of kind text.now ∷ []) }
+    {
+        let text = Words::of(alloc, text)?;
+        self.tokens.push(Token { kind, text })
+    }
+
+    /// Adds a keyword or a sign.
+    #[tactic(auto, using(crate::proofs::DraftLemmas::typed))]
+    pub fn word(&mut self, alloc: Global, kind: Kind) -> Result<(), AllocError>
+        ensures { OnOk result (self.new.tokens ≡ self.old.tokens ++ fixed kind ∷ []) }
+    {
+        self.push(alloc, kind, word_of(kind))
+    }
+
+    /// Adds a name in quotes.
+    pub fn name(&mut self, alloc: Global, name: &Words) -> Result<(), AllocError>
+        ensures { OnOk result (self.new.tokens ≡ self.old.tokens ++ spec.quoted name.now ∷ []) }
+    {
+        self.push(alloc, Kind::Quoted, name.as_str())
+    }
+
+    /// Adds a text in quotes.
+    pub fn text(&mut self, alloc: Global, text: &str) -> Result<(), AllocError>
+        ensures { OnOk result (self.new.tokens ≡ self.old.tokens ++ token_of Kind.Text text.now ∷ []) }
+    {
+        self.push(alloc, Kind::Text, text)
+    }
+
+    /// Adds a number with these digits.
+    pub fn number(&mut self, alloc: Global, digits: &str) -> Result<(), AllocError>
+        ensures { OnOk result (self.new.tokens ≡ self.old.tokens ++ token_of Kind.Number digits.now ∷ []) }
+    {
+        self.push(alloc, Kind::Number, digits)
+    }
+
+    /// Adds bytes, as two digits each.
+    #[tactic(auto, using(crate::proofs::DraftLemmas::typed))]
+    pub fn bytes(&mut self, alloc: Global, bytes: &[u8]) -> Result<(), AllocError>
+        ensures { OnOk result (self.new.tokens ≡ self.old.tokens ++ token_of Kind.Bytes (encode_lower bytes.now) ∷ []) }
+    {
+        let digits = encode(alloc, bytes)?;
+        self.push(alloc, Kind::Bytes, digits.as_str())
+    }
+}

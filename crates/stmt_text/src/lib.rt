@@ -1,0 +1,15 @@
+//! The text of statements: lines are read, and statements are printed as lines that say them.
+#![tactic(auto)]
+
+mod draft;
+mod laws;
+mod lists;
+mod names;
+mod predicate;
+mod printer;
+mod rows;
+mod statement;
+
+pub use laws::a_line_answers_what_it_says;
+pub use printer::print;
+pub use stmt_reader::{LineNo, each_line_has_one_answer, each_line_says_one_thing, read_line};
