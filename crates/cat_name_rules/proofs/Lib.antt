@@ -1,0 +1,2 @@
+pub mod CrowdedLemmas
+pub mod EarlierLemmas
