@@ -2,7 +2,9 @@
 //! columns and a data file so many delete files.
 #![tactic(auto)]
 
+mod columns;
 mod crowded;
 mod earlier;
 
+pub use columns::first_crowded_column;
 pub use earlier::{first_second_delete_file, first_used_schema_name, first_used_table_name};
