@@ -41,7 +41,7 @@ count-le D p q (x ∷ xs) all f = at (p x) (q x) (f x all.0) (count-le D p q xs 
     at false true g le = omega arith
     at false false g le = omega arith
 
-count_by-le : {X : Type 0} (D : X → Type 0) (p q : X → Bool) (xs : List X) → AllByRecursion D xs → ((x : X) → D x → p x ≡ true → q x ≡ true) → count_by p xs ≤ count_by q xs
+pub count_by-le : {X : Type 0} (D : X → Type 0) (p q : X → Bool) (xs : List X) → AllByRecursion D xs → ((x : X) → D x → p x ≡ true → q x ≡ true) → count_by p xs ≤ count_by q xs
 count_by-le D p q xs all f = let a = count_by-is p xs in let b = count_by-is q xs in let le = count-le D p q xs all f in omega arith
 
 -- ---- what a column covers with its table
@@ -87,17 +87,17 @@ extent_group : (first : ℕ) (g : List ℕ) (c : ColumnRow) (o : Option TableRow
 extent_group first g c None = refl
 extent_group first g c (Some r) = refl
 
-same_is : (a b : ℕ) → a ≡ b → (a == b) ≡ true
+pub same_is : (a b : ℕ) → a ≡ b → (a == b) ≡ true
 same_is a b e = (Decides-eqb a b).1 e
 
-is_same : (a b : ℕ) → (a == b) ≡ true → a ≡ b
+pub is_same : (a b : ℕ) → (a == b) ≡ true → a ≡ b
 is_same a b h = (Decides-eqb a b).0 h
 
 -- an earlier column of the group that the snapshot sees
 abbrev is_under_at : (ColumnRow → List ℕ) → ℕ → ColumnRow → ColumnRow → Bool
 is_under_at group s c q = is_lt (key_cmp (column_key q) (column_key c)) && (is_eq (key_cmp (group q) (group c)) && is_visible column_validity s q)
 
-in_group : (g h : List ℕ) → g ≡ h → is_eq (key_cmp g h) ≡ true
+pub in_group : (g h : List ℕ) → g ≡ h → is_eq (key_cmp g h) ≡ true
 in_group g h e = ap (λ k. is_eq (key_cmp k h)) e ∙ ap is_eq (tied_itself nat_list_cmp_total h)
 
 module _ (t : Tables) (up : RisesByKey snapshot_key t.snapshot) (whole : Holds (IsMissing t.snapshot)) (columns : AreDated t column_validity t.column) (tables : AreDated t table_validity t.table)
@@ -197,7 +197,7 @@ module _ (group : ColumnRow → List ℕ) (one_table : (q c : ColumnRow) → gro
       let k = and_true _ _ h.1 in
       both_true _ _ h.0 (both_true _ _ (in_group (group q) (group c) same) k.1)
 
-all_so : {X : Type 0} (xs : List X) → AllByRecursion (λ _. Unit {0}) xs
+pub all_so : {X : Type 0} (xs : List X) → AllByRecursion (λ _. Unit {0}) xs
 all_so [] = tt
 all_so (x ∷ xs) = (tt, all_so xs)
 

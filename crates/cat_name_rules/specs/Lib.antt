@@ -1,3 +1,4 @@
 pub mod Columns
 pub mod Crowded
 pub mod Earlier
+pub mod Inlined

@@ -5,6 +5,8 @@
 mod columns;
 mod crowded;
 mod earlier;
+mod inlined;
 
 pub use columns::first_crowded_column;
 pub use earlier::{first_second_delete_file, first_used_schema_name, first_used_table_name};
+pub use inlined::first_crowded_inlined;
