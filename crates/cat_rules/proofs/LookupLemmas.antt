@@ -1,11 +1,12 @@
 -- Rows with one value stand together where the rows rise by it, and the last of them is the last row up to the value.
-use Rattle.std.proofs.Common.{◌≡◌, ◌≢◌, ℕ, zero, suc, ◌+◌, ◌-◌, ◌<◌, ◌≤◌, Bool, true, false, not, cond, List, [], ◌∷◌, Option, Some, None, Ordering, Less, Equal, Greater, is_eq, is_gt, length, get_or, refl, sym, ap, subst, ◌∙◌, true≢false, arith, filter}
+use Rattle.std.proofs.Common.{◌≡◌, ◌≢◌, ℕ, zero, suc, ◌+◌, ◌-◌, ◌<◌, ◌≤◌, Bool, true, false, not, cond, List, [], ◌∷◌, Option, Some, None, Ordering, Less, Equal, Greater, is_lt, is_eq, is_gt, length, get_or, take, drop, refl, sym, ap, subst, ◌∙◌, true≢false, arith, filter}
 use Rattle.std.specs.List.{AllByRecursion, prefix_len}
 use Rattle.std.specs.List.Sorted.{IsPartitionedBy}
 use Rattle.std.specs.Ordering.{nat_cmp, ordering_reverse, ordering_then}
 use Rattle.std.proofs.lemmas.Cmp.{nat_list_cmp_total}
 use Rattle.cat_tables.specs.Table.{IsAscending, IsBelow, RisesByKey, has_key, key_cmp}
 use Rattle.cat_tables.proofs.KeyLemmas.{key_eq}
+use Rattle.cat_tables.proofs.PlaceLemmas.{less_is}
 use Rattle.cat_rows.specs.Keys.{column_key}
 use Rattle.cat_rows.specs.declared.schemas.ColumnRow.{ColumnRow}
 use Rattle.cat_rules.specs.Lookups.{column_of, last}
@@ -167,3 +168,78 @@ module _ {R : Type 0} (value : R → List ℕ) (k : List ℕ) (rows : List R) (u
       let here : found value k rows (suc (n - 1)) ≡ cond (has_key value k (get_or rows (n - 1) r)) (Some (get_or rows (n - 1) r)) None = found_at value k rows (n - 1) r (omega arith) in
       let whole : last (filter (has_key value k) rows) ≡ found value k rows (suc (n - 1)) = found_is value k rows up ∙ ap (found value k rows) (sym count ∙ one) in
       sym (whole ∙ here ∙ ap (λ q. cond (has_key value k q) (Some q) None) (sym e))
+
+-- ---- the rows of a value, as a part of all rows
+
+module _ {R : Type 0} (value : R → List ℕ) (k : List ℕ) where
+  abbrev pub is_below : R → Bool
+  is_below r = is_lt (key_cmp (value r) k)
+
+  pub parted_below : (rows : List R) → Rises value k rows → IsPartitionedBy is_below rows
+  parted_below [] up i j d le lt h = absurd (omega arith)
+  parted_below (r ∷ rs) up zero zero d le lt h = h
+  parted_below (r ∷ rs) up (suc i) zero d le lt h = absurd (omega arith)
+  parted_below (r ∷ rs) up (suc i) (suc j) d le lt h = parted_below rs up.1 i j d (omega arith) (omega arith) h
+  parted_below (r ∷ rs) up zero (suc j) d le lt h = under rs j up.0 (omega arith) h
+    where
+      lower : (q : R) → key_cmp (value r) (value q) ≢ Greater → is_lt (key_cmp (value q) k) ≡ true → is_lt (key_cmp (value r) k) ≡ true
+      lower q le low = go (key_cmp (value r) (value q)) refl
+        where
+          go : (o : Ordering) → key_cmp (value r) (value q) ≡ o → is_lt (key_cmp (value r) k) ≡ true
+          go Less e = ap is_lt (nat_list_cmp_total.trans (value r) (value q) k e (less_is _ low))
+          go Equal e = subst (λ x. is_lt (key_cmp x k) ≡ true) (sym (key_eq (value r) (value q) (ap is_eq e))) low
+          go Greater e = absurd (le e)
+
+      under : (qs : List R) (j : ℕ) → AllByRecursion (λ q. key_cmp (value r) (value q) ≢ Greater) qs → j < length qs → is_below (get_or qs j d) ≡ true → is_below r ≡ true
+      under [] j all lt low = absurd (omega arith)
+      under (q ∷ qs) zero all lt low = lower q all.0 low
+      under (q ∷ qs) (suc j) all lt low = under qs j all.1 (omega arith) low
+
+  abbrev pub below : List R → ℕ
+  below = prefix_len is_below
+
+  abbrev pub upto : List R → ℕ
+  upto = prefix_len (is_upto value k)
+
+  -- none is below where the first isn't
+  none_below : (r : R) (rs : List R) → AllByRecursion (λ q. key_cmp (value r) (value q) ≢ Greater) rs → is value k r ≡ true → below rs ≡ 0
+  none_below r [] up same = refl
+  none_below r (q ∷ qs) up same = ap (λ b. cond b (1 + below qs) 0) (go (key_cmp (value q) k) refl)
+    where
+      go : (o : Ordering) → key_cmp (value q) k ≡ o → is_lt o ≡ false
+      go Less e =
+          let back : key_cmp (value r) (value q) ≡ Greater =
+              nat_list_cmp_total.antisymm (value r) (value q) ∙ ap ordering_reverse (subst (λ x. key_cmp (value q) x ≡ Less) (sym (key_eq (value r) k same)) e) in
+          absurd (up.0 back)
+      go Equal e = refl
+      go Greater e = refl
+
+  -- The rows of the value are those from the first that isn't below it to the last up to it.
+  pub part_is : (rows : List R) → Rises value k rows → filter (has_key value k) rows ≡ drop (below rows) (take (upto rows) rows)
+  part_is [] up = refl
+  part_is (r ∷ rs) up = go (key_cmp (value r) k) refl
+    where
+      more : (n : ℕ) → take (1 + n) (r ∷ rs) ≡ r ∷ take n rs
+      more n = let e : 1 + n ≡ suc n = omega arith in rw e refl
+
+      less : (n : ℕ) (xs : List R) → drop (1 + n) (r ∷ xs) ≡ drop n xs
+      less n xs = let e : 1 + n ≡ suc n = omega arith in rw e refl
+
+      go : (o : Ordering) → key_cmp (value r) k ≡ o
+          → cond (is_eq o) (r ∷ filter (has_key value k) rs) (filter (has_key value k) rs) ≡ drop (cond (is_lt o) (1 + below rs) 0) (take (cond (not (is_gt o)) (1 + upto rs) 0) (r ∷ rs))
+      go Less e = part_is rs up.1 ∙ sym (ap (drop (1 + below rs)) (more (upto rs)) ∙ less (below rs) (take (upto rs) rs))
+      go Equal e =
+          let first : below rs ≡ 0 = none_below r rs up.0 (ap is_eq e) in
+          ap (λ xs. r ∷ xs) (part_is rs up.1 ∙ ap (λ n. drop n (take (upto rs) rs)) first) ∙ sym (more (upto rs))
+      go Greater e =
+          let none : filter (has_key value k) (r ∷ rs) ≡ [] = above value k r rs up.0 (ap (λ o. not (is_gt o)) e) in
+          ap (λ b. cond b (r ∷ filter (has_key value k) rs) (filter (has_key value k) rs)) (sym (ap is_eq e)) ∙ none
+
+  pub in_order : (rows : List R) → Rises value k rows → below rows ≤ upto rows
+  in_order [] up = omega arith
+  in_order (r ∷ rs) up = go (key_cmp (value r) k) (in_order rs up.1)
+    where
+      go : (o : Ordering) → below rs ≤ upto rs → cond (is_lt o) (1 + below rs) 0 ≤ cond (not (is_gt o)) (1 + upto rs) 0
+      go Less h = omega arith
+      go Equal h = omega arith
+      go Greater h = omega arith
