@@ -39,6 +39,10 @@ pub SomeOf_like : {X : Type 0} (P Q : X → Type 0) → ((x : X) → P x → Q x
 SomeOf_like P Q f [] h = h
 SomeOf_like P Q f (x ∷ xs) h = ⊎_elim (λ p. inl (f x p)) (λ p. inr (SomeOf_like P Q f xs p)) h
 
+pub SomeOf_along : {X : Type 0} (P Q : X → Type 0) → (xs : List X) → AllByRecursion (λ x. P x → Q x) xs → SomeOf P xs → SomeOf Q xs
+SomeOf_along P Q [] f h = h
+SomeOf_along P Q (x ∷ xs) f h = ⊎_elim (λ p. inl (f.0 p)) (λ p. inr (SomeOf_along P Q xs f.1 p)) h
+
 -- ---- rows that rise
 
 pub all_like : {X : Type 0} (P Q : X → Type 0) → ((x : X) → P x → Q x) → (xs : List X) → AllByRecursion P xs → AllByRecursion Q xs
@@ -126,12 +130,15 @@ module _ {R : Type 0} (name : R → Key) (is_bad : R → Bool) where
   pub first_of_all : (rows : List R) → FirstBad (NamesIf name is_bad rows) (first_from None rows)
   first_of_all rows = first_like (λ k. ⊥ ⊎ NamesIf name is_bad rows k) (NamesIf name is_bad rows) (λ k p. ⊎_elim (λ x. absurd x) (λ x. x) p) (λ k p. inr p) _ (first_onward (λ k. ⊥) None rows (λ k h. h))
 
-  -- a test that decides a fact
-  pub first_names : (Bad : R → Type 0) (rows : List R) (o : Option Key) → ((r : R) → Decides (is_bad r) (Bad r)) → FirstBad (NamesIf name is_bad rows) o → FirstBad (Names name Bad rows) o
-  first_names Bad rows o d h =
-      first_like (NamesIf name is_bad rows) (Names name Bad rows)
-      (λ k p. SomeOf_like _ _ (λ r x. ((d r).0 x.0, x.1)) rows p)
-      (λ k p. SomeOf_like _ _ (λ r x. ((d r).1 x.0, x.1)) rows p) o h
+  -- a test that decides a fact of each of the rows
+  pub names_from : (Bad : R → Type 0) (rows : List R) → AllByRecursion (λ r. Decides (is_bad r) (Bad r)) rows → (k : Key) → NamesIf name is_bad rows k → Names name Bad rows k
+  names_from Bad rows d k p = SomeOf_along _ _ rows (all_like _ _ (λ r e x. (e.0 x.0, x.1)) rows d) p
+
+  pub names_to : (Bad : R → Type 0) (rows : List R) → AllByRecursion (λ r. Decides (is_bad r) (Bad r)) rows → (k : Key) → Names name Bad rows k → NamesIf name is_bad rows k
+  names_to Bad rows d k p = SomeOf_along _ _ rows (all_like _ _ (λ r e x. (e.1 x.0, x.1)) rows d) p
+
+  pub first_names : (Bad : R → Type 0) (rows : List R) (o : Option Key) → AllByRecursion (λ r. Decides (is_bad r) (Bad r)) rows → FirstBad (NamesIf name is_bad rows) o → FirstBad (Names name Bad rows) o
+  first_names Bad rows o d h = first_like (NamesIf name is_bad rows) (Names name Bad rows) (names_from Bad rows d) (names_to Bad rows d) o h
 
   -- of rows that stand in the order of the keys that they name, the first bad one
   pub first_found : (rows : List R) → IsAscending (λ a b. is_sooner (name a) (name b) ≡ true) rows → FirstBad (NamesIf name is_bad rows) (option_map name (find is_bad rows))

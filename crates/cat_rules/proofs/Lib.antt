@@ -5,3 +5,5 @@ pub mod CheckedLemmas
 pub mod LookupLemmas
 pub mod KeptLemmas
 pub mod ColumnLemmas
+pub mod SightLemmas
+pub mod DatedLemmas

@@ -31,8 +31,8 @@ abbrev pub has_large_id : SnapshotRow → Bool
 has_large_id n = nat_lt last_id n.next_catalog_id || nat_lt last_id n.next_file_id
 
 -- the counter isn't past this id
-abbrev pub is_at : ℕ → ℕ → Bool
-is_at counter id = nat_le counter id
+abbrev pub is_not_past : ℕ → ℕ → Bool
+is_not_past counter id = nat_le counter id
 
 -- a counter is too large by itself
 abbrev pub IsTooLarge : SnapshotRow → Key → Type 0
@@ -42,14 +42,14 @@ IsTooLarge n k = (has_large_id n ≡ true) × (of_snapshot n ≡ k)
 abbrev pub IsPastCounters : Tables → SnapshotRow → Key → Type 0
 IsPastCounters t n k =
     IsTooLarge n k
-    ⊎ (NamesIf of_schema (λ r. is_at n.next_catalog_id r.schema_id) t.schema k
-    ⊎ (NamesIf of_table (λ r. is_at n.next_catalog_id r.table_id || is_at n.next_catalog_id r.schema_id) t.table k
-    ⊎ (NamesIf of_column (λ r. is_at n.next_catalog_id r.table_id) t.column k
-    ⊎ (NamesIf of_data_file (λ r. is_at n.next_file_id r.data_file_id || is_at n.next_catalog_id r.table_id) t.data_file k
-    ⊎ (NamesIf of_delete_file (λ r. is_at n.next_file_id r.delete_file_id || (is_at n.next_file_id r.data_file_id || is_at n.next_catalog_id r.table_id)) t.delete_file k
-    ⊎ (NamesIf of_column_stats (λ r. is_at n.next_file_id r.data_file_id) t.file_column_stats k
-    ⊎ (NamesIf of_table_stats (λ r. is_at n.next_catalog_id r.table_id) t.table_stats k
-    ⊎ NamesIf of_inlined (λ r. is_at n.next_catalog_id r.table_id) t.inlined_row k)))))))
+    ⊎ (NamesIf of_schema (λ r. is_not_past n.next_catalog_id r.schema_id) t.schema k
+    ⊎ (NamesIf of_table (λ r. is_not_past n.next_catalog_id r.table_id || is_not_past n.next_catalog_id r.schema_id) t.table k
+    ⊎ (NamesIf of_column (λ r. is_not_past n.next_catalog_id r.table_id) t.column k
+    ⊎ (NamesIf of_data_file (λ r. is_not_past n.next_file_id r.data_file_id || is_not_past n.next_catalog_id r.table_id) t.data_file k
+    ⊎ (NamesIf of_delete_file (λ r. is_not_past n.next_file_id r.delete_file_id || (is_not_past n.next_file_id r.data_file_id || is_not_past n.next_catalog_id r.table_id)) t.delete_file k
+    ⊎ (NamesIf of_column_stats (λ r. is_not_past n.next_file_id r.data_file_id) t.file_column_stats k
+    ⊎ (NamesIf of_table_stats (λ r. is_not_past n.next_catalog_id r.table_id) t.table_stats k
+    ⊎ NamesIf of_inlined (λ r. is_not_past n.next_catalog_id r.table_id) t.inlined_row k)))))))
 
 abbrev pub IsIdBad : Tables → Key → Type 0
 IsIdBad t k = (n : SnapshotRow) × (newest t.snapshot ≡ Some n) × IsPastCounters t n k

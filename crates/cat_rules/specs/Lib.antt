@@ -9,3 +9,4 @@ pub mod Intervals
 pub mod Counters
 pub mod Steps
 pub mod Named
+pub mod Sight

@@ -5,7 +5,7 @@ ghost use Rattle.cat_rules.specs.Places as places;
 use cat_rows::{ColumnRow, DataFileRow, DeleteFileRow, InlinedRow, Key, SchemaRow, TableRow};
 
 /// A row with a validity interval, whose key can be told.
-pub(crate) trait Dated {
+pub trait Dated {
     ghost use Rattle.cat_tables.specs.Validity.{Validity};
     ghost use Rattle.cat_rows.specs.declared.batch.Key.{Key};
 

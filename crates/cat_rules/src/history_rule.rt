@@ -69,8 +69,8 @@ fn first_gap(rows: &[SnapshotRow]) -> Option<Key>
     None
 }
 
-/// The first bad row of the rule about snapshots: there are snapshots, consecutive ones, each with a changes text, and
-/// there is no text of another.
+/// The first bad row of the rule about snapshots: there are snapshots, consecutive ones, each with a changes
+/// text, and there is no text of another.
 pub fn first_bad_snapshot(rows: &CatRows) -> Option<Key>
     ensures { FirstBad (IsSnapshotBad (tables_of rows.now)) result }
 {

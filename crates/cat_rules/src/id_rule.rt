@@ -1,6 +1,6 @@
 ghost use Rattle.std.specs.Prelude.{◌≡◌, ◌||◌};
 ghost use Rattle.cat_rows.specs.Batches.{tables_of};
-ghost use Rattle.cat_rules.specs.Counters.{IsIdBad, IsTooLarge, is_at};
+ghost use Rattle.cat_rules.specs.Counters.{IsIdBad, IsTooLarge, is_not_past};
 ghost use Rattle.cat_rules.specs.First.{FirstBad};
 ghost use Rattle.cat_rules.specs.Places as places;
 
@@ -20,7 +20,7 @@ struct PastCounter<'a> {
 }
 
 impl RowRule<SchemaRow> for PastCounter<'_> {
-    ghost is_bad = { λ rule r. is_at rule.newest.now.next_catalog_id r.schema_id };
+    ghost is_bad = { λ rule r. is_not_past rule.newest.now.next_catalog_id r.schema_id };
 
     ghost name = { places.of_schema };
 
@@ -34,7 +34,9 @@ impl RowRule<SchemaRow> for PastCounter<'_> {
 }
 
 impl RowRule<TableRow> for PastCounter<'_> {
-    ghost is_bad = { λ rule r. is_at rule.newest.now.next_catalog_id r.table_id || is_at rule.newest.now.next_catalog_id r.schema_id };
+    ghost is_bad = { λ rule r.
+        is_not_past rule.newest.now.next_catalog_id r.table_id
+        || is_not_past rule.newest.now.next_catalog_id r.schema_id };
 
     ghost name = { places.of_table };
 
@@ -50,7 +52,7 @@ impl RowRule<TableRow> for PastCounter<'_> {
 }
 
 impl RowRule<ColumnRow> for PastCounter<'_> {
-    ghost is_bad = { λ rule r. is_at rule.newest.now.next_catalog_id r.table_id };
+    ghost is_bad = { λ rule r. is_not_past rule.newest.now.next_catalog_id r.table_id };
 
     ghost name = { places.of_column };
 
@@ -64,7 +66,9 @@ impl RowRule<ColumnRow> for PastCounter<'_> {
 }
 
 impl RowRule<DataFileRow> for PastCounter<'_> {
-    ghost is_bad = { λ rule r. is_at rule.newest.now.next_file_id r.data_file_id || is_at rule.newest.now.next_catalog_id r.table_id };
+    ghost is_bad = { λ rule r.
+        is_not_past rule.newest.now.next_file_id r.data_file_id
+        || is_not_past rule.newest.now.next_catalog_id r.table_id };
 
     ghost name = { places.of_data_file };
 
@@ -81,8 +85,9 @@ impl RowRule<DataFileRow> for PastCounter<'_> {
 
 impl RowRule<DeleteFileRow> for PastCounter<'_> {
     ghost is_bad = { λ rule r.
-        is_at rule.newest.now.next_file_id r.delete_file_id
-        || (is_at rule.newest.now.next_file_id r.data_file_id || is_at rule.newest.now.next_catalog_id r.table_id) };
+        is_not_past rule.newest.now.next_file_id r.delete_file_id
+        || (is_not_past rule.newest.now.next_file_id r.data_file_id
+        || is_not_past rule.newest.now.next_catalog_id r.table_id) };
 
     ghost name = { places.of_delete_file };
 
@@ -99,7 +104,7 @@ impl RowRule<DeleteFileRow> for PastCounter<'_> {
 }
 
 impl RowRule<FileColumnStatsRow> for PastCounter<'_> {
-    ghost is_bad = { λ rule r. is_at rule.newest.now.next_file_id r.data_file_id };
+    ghost is_bad = { λ rule r. is_not_past rule.newest.now.next_file_id r.data_file_id };
 
     ghost name = { places.of_column_stats };
 
@@ -113,7 +118,7 @@ impl RowRule<FileColumnStatsRow> for PastCounter<'_> {
 }
 
 impl RowRule<TableStatsRow> for PastCounter<'_> {
-    ghost is_bad = { λ rule r. is_at rule.newest.now.next_catalog_id r.table_id };
+    ghost is_bad = { λ rule r. is_not_past rule.newest.now.next_catalog_id r.table_id };
 
     ghost name = { places.of_table_stats };
 
@@ -127,7 +132,7 @@ impl RowRule<TableStatsRow> for PastCounter<'_> {
 }
 
 impl RowRule<InlinedRow> for PastCounter<'_> {
-    ghost is_bad = { λ rule r. is_at rule.newest.now.next_catalog_id r.table_id };
+    ghost is_bad = { λ rule r. is_not_past rule.newest.now.next_catalog_id r.table_id };
 
     ghost name = { places.of_inlined };
 
@@ -151,8 +156,8 @@ fn large_counter(newest: &SnapshotRow) -> Option<Key>
     }
 }
 
-/// The first bad row of the rule about ids: both counters of the newest snapshot are past each id of their sort, in any
-/// row, and at most the last value.
+/// The first bad row of the rule about ids: both counters of the newest snapshot are past each id of their sort,
+/// in any row, and at most the last value.
 pub fn first_bad_id(rows: &CatRows) -> Option<Key>
     ensures { FirstBad (IsIdBad (tables_of rows.now)) result }
 {

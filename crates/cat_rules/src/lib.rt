@@ -19,6 +19,7 @@ mod stats_rule;
 pub use bad_row::BadRow;
 pub use checked::{CheckedRule, first_checked};
 pub use column_stats_rule::{first_bad_column_stats, is_field_past};
+pub use dated::Dated;
 pub use history_rule::first_bad_snapshot;
 pub use id_rule::first_bad_id;
 pub use interval_rule::first_bad_interval;

@@ -10,7 +10,7 @@ use Rattle.cat_rows.specs.declared.files.DeleteFileRow.{DeleteFileRow}
 use Rattle.cat_rows.specs.declared.files.FileColumnStatsRow.{FileColumnStatsRow}
 use Rattle.cat_rows.specs.declared.files.TableStatsRow.{TableStatsRow}
 use Rattle.cat_rows.specs.declared.inlined.InlinedRow.{InlinedRow}
-use Rattle.cat_rules.specs.Counters.{IsTooLarge, is_at}
+use Rattle.cat_rules.specs.Counters.{IsTooLarge, is_not_past}
 use Rattle.cat_rules.specs.Places.{of_schema, of_table, of_column, of_data_file, of_delete_file, of_column_stats, of_table_stats, of_inlined}
 use Rattle.cat_rules.specs.Rows.{NamesIf, newest}
 use Rattle.cat_rules.proofs.FirstLemmas.{first_in, first_or}
@@ -22,14 +22,14 @@ returns c =
     let t = tables_of c.args.rows.now in
     let n = c.in_ok-newest.newest.now in
     let is : newest t.snapshot ≡ Some n = ap newest (sym c.snapshot.ensures.rows) ∙ sym c.newest_of.ensures ∙ ap option_copied c.in_ok-newest.was in
-    let schema_test : SchemaRow → Bool = λ r. is_at n.next_catalog_id r.schema_id in
-    let table_test : TableRow → Bool = λ r. is_at n.next_catalog_id r.table_id || is_at n.next_catalog_id r.schema_id in
-    let column_test : ColumnRow → Bool = λ r. is_at n.next_catalog_id r.table_id in
-    let data_file_test : DataFileRow → Bool = λ r. is_at n.next_file_id r.data_file_id || is_at n.next_catalog_id r.table_id in
-    let delete_file_test : DeleteFileRow → Bool = λ r. is_at n.next_file_id r.delete_file_id || (is_at n.next_file_id r.data_file_id || is_at n.next_catalog_id r.table_id) in
-    let column_stats_test : FileColumnStatsRow → Bool = λ r. is_at n.next_file_id r.data_file_id in
-    let table_stats_test : TableStatsRow → Bool = λ r. is_at n.next_catalog_id r.table_id in
-    let inlined_test : InlinedRow → Bool = λ r. is_at n.next_catalog_id r.table_id in
+    let schema_test : SchemaRow → Bool = λ r. is_not_past n.next_catalog_id r.schema_id in
+    let table_test : TableRow → Bool = λ r. is_not_past n.next_catalog_id r.table_id || is_not_past n.next_catalog_id r.schema_id in
+    let column_test : ColumnRow → Bool = λ r. is_not_past n.next_catalog_id r.table_id in
+    let data_file_test : DataFileRow → Bool = λ r. is_not_past n.next_file_id r.data_file_id || is_not_past n.next_catalog_id r.table_id in
+    let delete_file_test : DeleteFileRow → Bool = λ r. is_not_past n.next_file_id r.delete_file_id || (is_not_past n.next_file_id r.data_file_id || is_not_past n.next_catalog_id r.table_id) in
+    let column_stats_test : FileColumnStatsRow → Bool = λ r. is_not_past n.next_file_id r.data_file_id in
+    let table_stats_test : TableStatsRow → Bool = λ r. is_not_past n.next_catalog_id r.table_id in
+    let inlined_test : InlinedRow → Bool = λ r. is_not_past n.next_catalog_id r.table_id in
     let Schema : Key → Type 0 = NamesIf of_schema schema_test t.schema in
     let Table : Key → Type 0 = NamesIf of_table table_test t.table in
     let Column : Key → Type 0 = NamesIf of_column column_test t.column in
