@@ -1,0 +1,8 @@
+use Rattle.std.proofs.Common.{◌≡◌, ◌++◌, ◌∷◌, flat_map, drop}
+use Rattle.std.specs.String.{string_bytes}
+use Rattle.lake_types.specs.Kinds.{kind_text, changes_text}
+use Rattle.cat_changes.proofs.writing.changes_text.Given as goal
+
+-- the text so far, and that of the kinds to come, each behind a comma
+abbrev pub invariant-loop-kind : goal.invariant-loop-kind
+invariant-loop-kind l = string_bytes l.text ++ flat_map (λ k. 44 ∷ kind_text k) (drop l.kind-index l.others) ≡ changes_text l.kinds
