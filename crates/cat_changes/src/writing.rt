@@ -1,6 +1,7 @@
 ghost use Rattle.std.specs.Prelude.{◌≡◌, ◌++◌, IfOk, OnOk, codes, decimal};
 ghost use Rattle.std.specs.String.{string_bytes};
 ghost use Rattle.lake_types.specs.Kinds as spec;
+ghost use Rattle.cat_changes.specs.Changes.{HasId, Says};
 
 use crate::quotes::push_quoted;
 use lake_types::{Kind, KindList, NoMemory, Words};
@@ -9,21 +10,24 @@ use std::alloc::{AllocError, Global};
 /// The text of kinds that stand in order, each once.
 pub fn changes_text(alloc: Global, kinds: &KindList) -> Result<Words, NoMemory>
     requires { spec.AreInOrder kinds.now }
-    ensures { IfOk result (λ text. text ≡ spec.changes_text kinds.now) }
+    ensures text { IfOk result (λ text. text ≡ spec.changes_text kinds.now) }
+    ensures says { IfOk result (λ text. Says text kinds.now) }
 {
     let mut text = String::new(alloc);
-    if let Some((first, others)) = kinds.as_slice().split_first() {
-        push_kind(&mut text, first)?;
-        for kind in others {
-            text.push(',')?;
-            push_kind(&mut text, kind)?;
-        }
+    let Some((first, others)) = kinds.as_slice().split_first() else {
+        return Ok(Words::from_string(text));
+    };
+    push_kind(&mut text, first)?;
+    for kind in others {
+        text.push(',')?;
+        push_kind(&mut text, kind)?;
     }
     Ok(Words::from_string(text))
 }
 
 fn push_kind(text: &mut String, kind: &Kind) -> Result<(), AllocError>
-    ensures { OnOk result (string_bytes text.new ≡ string_bytes text.old ++ spec.kind_text kind.now) }
+    ensures text { OnOk result (string_bytes text.new ≡ string_bytes text.old ++ spec.kind_text kind.now) }
+    ensures id { OnOk result (HasId kind.now) }
 {
     match kind {
         Kind::CreatedSchema { name } => {
