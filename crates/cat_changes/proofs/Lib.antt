@@ -4,3 +4,4 @@ pub mod KindLemmas
 pub mod BodyLemmas
 pub mod OrderLemmas
 pub mod ListLemmas
+pub mod NameLemmas

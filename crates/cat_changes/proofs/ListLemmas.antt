@@ -1,17 +1,14 @@
 -- A changes text is that of one list of kinds, names of dropped schemas aside, and it is wrong at one place.
-use Rattle.std.proofs.Common.{◌≡◌, ◌≢◌, ℕ, suc, ◌+◌, ◌-◌, ◌<◌, List, [], ◌∷◌, ◌++◌, ◌⊎◌, length, map, flat_map, get_or, take, drop, Option, Some, None, Err, inl, inr, refl, sym, ap, ◌∙◌, append_assoc, arith}
-use Rattle.std.proofs.lemmas.List.{append-nil, map-append, length-append, take-append-drop}
-use Rattle.std.proofs.Math.Seq.{drop-cons}
+use Rattle.std.proofs.Common.{◌≡◌, ◌≢◌, ℕ, ◌+◌, ◌-◌, List, [], ◌∷◌, ◌++◌, ◌⊎◌, length, map, flat_map, Option, Some, None, inl, inr, refl, sym, ap, ◌∙◌, append_assoc, arith}
+use Rattle.std.proofs.lemmas.List.{append-nil, map-append, length-append}
 use Rattle.std.specs.List.{AllByRecursion, join_with_byte}
 use Rattle.lake_types.specs.declared.kind.Kind.{Kind}
 use Rattle.lake_types.specs.declared.kind.Kind.TheVariants as kind
 use Rattle.lake_types.specs.declared.kind.SchemaName.{SchemaName}
 use Rattle.lake_types.specs.Kinds.{kind_text, changes_text, AreInOrder}
-use Rattle.cat_changes.specs.declared.fault.BadChanges.{BadChanges}
-use Rattle.cat_changes.specs.declared.fault.BadChanges.TheVariants.{Text, NoSchema, Memory}
-use Rattle.cat_changes.specs.Changes.{HasId, Says, Gives, IsNamed, AreNamed, name_of, ended, tail_text, IsWrongAt, LacksName, HasCause}
+use Rattle.cat_changes.specs.Changes.{HasId, Says, Gives, IsNamed, AreNamed, name_of, ended, tail_text, IsWrongAt, LacksName}
 use Rattle.cat_changes.specs.Laws.{HasOneList, HasOnePlace, SaysOrIsWrong}
-use Rattle.cat_changes.specs.Reading.{unnamed, AreUnnamed, IsKindAt, IsNameless, NamesAll, NamesKind, ReadsText}
+use Rattle.cat_changes.specs.Reading.{unnamed, AreUnnamed, IsKindAt}
 use Rattle.cat_changes.proofs.KindLemmas.{kind_cut}
 use Rattle.cat_changes.proofs.OrderLemmas.{order_same, ids_same, texts_same, up_to}
 
@@ -104,7 +101,7 @@ says_same text a b e s = record {
   spelled = ap (join_with_byte 44) (sym (texts_same a b e)) ∙ s.spelled;
 }
 
-named_kind : (schemas : List SchemaName) (k l : Kind) → unnamed k ≡ unnamed l → IsNamed schemas k → IsNamed schemas l → k ≡ l
+named_kind : (schemas : List SchemaName) (k l : Kind) → unnamed k ≡ unnamed l → IsNamed (name_of schemas) k → IsNamed (name_of schemas) l → k ≡ l
 named_kind schemas (kind.DroppedSchema i n) (kind.DroppedSchema j m) e hk hl =
     let ids : i ≡ j = cc in
     let names : Some n ≡ Some m = sym hk ∙ ap (name_of schemas) ids ∙ hl in
@@ -143,7 +140,7 @@ lacking schemas [] id name behind (kind.DroppedSchema j m ∷ kinds) e h none =
 lacking schemas [] id name behind (k ∷ kinds) e h none = cc
 lacking schemas (b ∷ before) id name behind (k ∷ kinds) e h none = lacking schemas before id name behind kinds (cc) h.1 none
 
-lacks_gives_none : (schemas : List SchemaName) (text : List ℕ) (id : ℕ) (kinds : List Kind) → LacksName schemas text id → Gives schemas text kinds → ⊥
+pub lacks_gives_none : (schemas : List SchemaName) (text : List ℕ) (id : ℕ) (kinds : List Kind) → LacksName schemas text id → Gives schemas text kinds → ⊥
 lacks_gives_none schemas text id kinds l g =
     lacking schemas l.before id l.name l.behind kinds
     (same_lists (l.before ++ kind.DroppedSchema id l.name ∷ l.behind) kinds l.says.ids g.says.ids (l.says.spelled ∙ sym g.says.spelled)) g.named l.lacks
@@ -303,62 +300,3 @@ stops_order text kinds rest at k tail is n id stands not_next = record {
       let cut = kind_cut l k other tail id' id (e ∙ sym stands) in
       not_next (order_same (kinds ++ l ∷ []) (kinds ++ k ∷ []) (unnamed_push kinds kinds l k refl cut.0) order);
 }
-
--- ---- names for the kinds that were read
-
-pub named_stops : (schemas : List SchemaName) (kinds named : List Kind) (i : ℕ) (k : Kind) (fault : BadChanges) → i < length kinds → k ≡ get_or kinds i k
-    → AreUnnamed named (take i kinds) × AreNamed schemas named → NamesKind schemas k (Err fault) → NamesAll schemas kinds (Err fault)
-named_stops schemas kinds named i k (Text at) lt is h n = n
-named_stops schemas kinds named i k Memory lt is h n = tt
-named_stops schemas kinds named i k (NoSchema id) lt is h n =
-    let rest : drop i kinds ≡ k ∷ drop (suc i) kinds = drop-cons kinds i k lt ∙ ap (λ (x : Kind). x ∷ drop (suc i) kinds) (sym is) in
-    let all : take i kinds ++ k ∷ drop (suc i) kinds ≡ kinds = ap (λ (x : List Kind). take i kinds ++ x) (sym rest) ∙ take-append-drop i kinds in
-    record {
-      before = named;
-      behind = drop (suc i) kinds;
-      split =
-          map-append unnamed named (kind.DroppedSchema id [] ∷ drop (suc i) kinds)
-          ∙ ap (λ (x : List Kind). x ++ kind.DroppedSchema id [] ∷ map unnamed (drop (suc i) kinds)) h.0
-          ∙ ap (λ (x : Kind). map unnamed (take i kinds) ++ x ∷ map unnamed (drop (suc i) kinds)) (sym n.0)
-          ∙ sym (map-append unnamed (take i kinds) (k ∷ drop (suc i) kinds)) ∙ ap (map unnamed) all;
-      named = h.1;
-      lacks = n.1;
-    }
-
-pub gives : (schemas : List SchemaName) (text : List ℕ) (kinds named : List Kind) → Says text kinds → AreUnnamed named kinds → AreNamed schemas named → Gives schemas text named
-gives schemas text kinds named s e h = record { says = says_same text kinds named (sym e) s; named = h }
-
-lacks_name : (schemas : List SchemaName) (text : List ℕ) (kinds : List Kind) (id : ℕ) → Says text kinds → IsNameless schemas kinds id → LacksName schemas text id
-lacks_name schemas text kinds id s n = record {
-  before = n.before;
-  name = [];
-  behind = n.behind;
-  says = says_same text kinds (n.before ++ kind.DroppedSchema id [] ∷ n.behind) (sym n.split) s;
-  named = n.named;
-  lacks = n.lacks;
-}
-
--- ---- what a fault says of the text
-
-pub text_cause : (schemas : List SchemaName) (text : List ℕ) (fault : BadChanges) → ReadsText text (Err fault) → HasCause schemas text fault
-text_cause schemas text (Text at) h = (h, (λ kinds s. says_or_is_wrong text at kinds h s))
-text_cause schemas text (NoSchema id) h = absurd h
-text_cause schemas text Memory h = tt
-
-pub text_none : (schemas : List SchemaName) (text : List ℕ) (fault : BadChanges) → ReadsText text (Err fault) → fault ≢ Memory
-    → (kinds : List Kind) → Gives schemas text kinds → ⊥
-text_none schemas text (Text at) h not_memory kinds g = says_or_is_wrong text at kinds h g.says
-text_none schemas text (NoSchema id) h not_memory kinds g = h
-text_none schemas text Memory h not_memory kinds g = not_memory refl
-
-pub name_cause : (schemas : List SchemaName) (text : List ℕ) (kinds : List Kind) (fault : BadChanges) → Says text kinds → NamesAll schemas kinds (Err fault)
-    → HasCause schemas text fault
-name_cause schemas text kinds (Text at) s h = absurd h
-name_cause schemas text kinds (NoSchema id) s h = lacks_name schemas text kinds id s h
-name_cause schemas text kinds Memory s h = tt
-
-pub name_none : (schemas : List SchemaName) (text : List ℕ) (read : List Kind) (fault : BadChanges) → Says text read → NamesAll schemas read (Err fault) → fault ≢ Memory
-    → (kinds : List Kind) → Gives schemas text kinds → ⊥
-name_none schemas text read (Text at) s h not_memory kinds g = h
-name_none schemas text read (NoSchema id) s h not_memory kinds g = lacks_gives_none schemas text id kinds (lacks_name schemas text read id s h) g
-name_none schemas text read Memory s h not_memory kinds g = not_memory refl

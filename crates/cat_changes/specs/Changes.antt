@@ -35,12 +35,13 @@ SaysNothing text = (kinds : List Kind) → Says text kinds → ⊥
 abbrev pub name_of : List SchemaName → ℕ → Option (List ℕ)
 name_of schemas id = option_map (λ schema. schema.name) (find (λ schema. schema.id == id) schemas)
 
-abbrev pub IsNamed : List SchemaName → Kind → Type 0
-IsNamed schemas (kind.DroppedSchema id name) = name_of schemas id ≡ Some name
-IsNamed schemas k = Unit {0}
+-- a dropped schema has the name that is found for its id
+abbrev pub IsNamed : (ℕ → Option (List ℕ)) → Kind → Type 0
+IsNamed found (kind.DroppedSchema id name) = found id ≡ Some name
+IsNamed found k = Unit {0}
 
 abbrev pub AreNamed : List SchemaName → List Kind → Type 0
-AreNamed schemas kinds = AllByRecursion (IsNamed schemas) kinds
+AreNamed schemas kinds = AllByRecursion (IsNamed (name_of schemas)) kinds
 
 -- the text is that of these kinds, and the dropped schemas among them have the names of the list
 pub record Gives (schemas : List SchemaName) (text : List ℕ) (kinds : List Kind) : Type 0 where

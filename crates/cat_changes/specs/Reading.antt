@@ -1,15 +1,14 @@
 -- How a changes text is read: what each function gives. Nothing outside of this crate speaks of it.
 use Rattle.std.specs.Prelude.{◌≡◌, ℕ, ◌<◌, ◌^◌, ◌==◌, ◌||◌, not, Bool, true, false, List, [], ◌∷◌, ◌++◌, map, decimal, Option, Some, None, Result, Ok, Err, if◌then◌else◌}
-use Rattle.std.specs.List.{list_all}
+use Rattle.std.specs.List.{list_all, AllByRecursion}
 use Rattle.std.specs.Option.{option_map}
 use Rattle.std.specs.Borrow.{Bor}
 use Rattle.lake_types.specs.declared.kind.Kind.{Kind}
 use Rattle.lake_types.specs.declared.kind.Kind.TheVariants as kind
-use Rattle.lake_types.specs.declared.kind.SchemaName.{SchemaName}
 use Rattle.lake_types.specs.Kinds.{kind_text}
 use Rattle.cat_changes.specs.declared.fault.BadChanges.{BadChanges}
 use Rattle.cat_changes.specs.declared.fault.BadChanges.TheVariants.{Text, NoSchema, Memory}
-use Rattle.cat_changes.specs.Changes.{AreNamed, HasId, IsNamed, IsWrongAt, Says, name_of, tail_text}
+use Rattle.cat_changes.specs.Changes.{HasId, IsNamed, IsWrongAt, Says, tail_text}
 
 -- no byte is this one
 abbrev pub lacks : ℕ → List ℕ → Bool
@@ -86,23 +85,33 @@ ReadsText text (Err (Text at)) = IsWrongAt text at
 ReadsText text (Err (NoSchema id)) = ⊥
 ReadsText text (Err Memory) = Unit {0}
 
+-- ---- names for dropped schemas
+
+-- the name that is looked up
+abbrev pub shown : Option (Bor (List ℕ)) → Option (List ℕ)
+shown found = option_map (λ name. name.now) found
+
+abbrev pub is_dropped_schema : Kind → Bool
+is_dropped_schema (kind.DroppedSchema id name) = true
+is_dropped_schema k = false
+
 -- kinds that are equal to these but for names, up to a dropped schema that has none
-pub record IsNameless (schemas : List SchemaName) (kinds : List Kind) (id : ℕ) : Type 0 where
+pub record IsNameless (found : ℕ → Option (List ℕ)) (kinds : List Kind) (id : ℕ) : Type 0 where
   pub before : List Kind
   pub behind : List Kind
   pub split : AreUnnamed (before ++ kind.DroppedSchema id [] ∷ behind) kinds
-  pub named : AreNamed schemas before
-  pub lacks : name_of schemas id ≡ None
+  pub named : AllByRecursion (IsNamed found) before
+  pub lacks : found id ≡ None
 
-abbrev pub NamesAll : List SchemaName → List Kind → Result (List Kind) BadChanges → Type 0
-NamesAll schemas kinds (Ok named) = AreUnnamed named kinds × AreNamed schemas named
-NamesAll schemas kinds (Err (Text at)) = ⊥
-NamesAll schemas kinds (Err (NoSchema id)) = IsNameless schemas kinds id
-NamesAll schemas kinds (Err Memory) = Unit {0}
+abbrev pub NamesAll : (ℕ → Option (List ℕ)) → List Kind → Result (List Kind) BadChanges → Type 0
+NamesAll found kinds (Ok named) = AreUnnamed named kinds × AllByRecursion (IsNamed found) named
+NamesAll found kinds (Err (Text at)) = ⊥
+NamesAll found kinds (Err (NoSchema id)) = IsNameless found kinds id
+NamesAll found kinds (Err Memory) = Unit {0}
 
 -- the same for one kind
-abbrev pub NamesKind : List SchemaName → Kind → Result Kind BadChanges → Type 0
-NamesKind schemas k (Ok named) = (unnamed named ≡ unnamed k) × IsNamed schemas named
-NamesKind schemas k (Err (Text at)) = ⊥
-NamesKind schemas k (Err (NoSchema id)) = (unnamed k ≡ kind.DroppedSchema id []) × (name_of schemas id ≡ None)
-NamesKind schemas k (Err Memory) = Unit {0}
+abbrev pub NamesKind : (ℕ → Option (List ℕ)) → Kind → Result Kind BadChanges → Type 0
+NamesKind found k (Ok named) = (unnamed named ≡ unnamed k) × IsNamed found named
+NamesKind found k (Err (Text at)) = ⊥
+NamesKind found k (Err (NoSchema id)) = (unnamed k ≡ kind.DroppedSchema id []) × (found id ≡ None)
+NamesKind found k (Err Memory) = Unit {0}

@@ -3,6 +3,7 @@
 
 mod fault;
 pub mod laws;
+mod names;
 mod order;
 mod quotes;
 mod reading;

@@ -7,10 +7,11 @@ ghost use Rattle.std.specs.List.{find};
 ghost use Rattle.std.specs.Option.{option_copied};
 
 use crate::fault::BadChanges;
+use crate::names::with_names;
 use crate::order::may_follow;
 use crate::quotes::{behind, cut, quoted_at};
 use itoa::Buffer;
-use lake_types::{Copied, Kind, KindList, Listed, SchemaName, SchemaNames, Words};
+use lake_types::{Kind, KindList, Listed, SchemaNames, Words};
 use std::alloc::{AllocError, Global};
 
 /// The kinds that a text says, with the names of the dropped schemas from a list: the inverse of `changes_text`. The whole text
@@ -25,8 +26,7 @@ pub fn read_changes(
     ensures none { IfErr result (λ fault. fault ≢ Memory → (kinds : List Kind) → Gives schemas.now text.now kinds → ⊥) }
 {
     let kinds = kinds_of(alloc, text)?;
-    let kinds = named(alloc, kinds.as_slice(), schemas.as_slice())?;
-    Ok(kinds)
+    with_names(alloc, kinds, schemas.as_slice())
 }
 
 /// The kinds that a text says, where a dropped schema has no name yet.
@@ -160,45 +160,4 @@ fn id_of(digits: &str) -> Option<u64>
     } else {
         None
     }
-}
-
-/// The kinds with the names of dropped schemas from the list.
-fn named(alloc: Global, kinds: &[Kind], schemas: &[SchemaName]) -> Result<KindList, BadChanges>
-    ensures { spec.NamesAll schemas.now kinds.now result }
-{
-    let mut named = Listed::new(alloc);
-    for kind in kinds {
-        let kind = named_kind(alloc, kind, schemas)?;
-        named.push(kind)?;
-    }
-    Ok(named)
-}
-
-fn named_kind(alloc: Global, kind: &Kind, schemas: &[SchemaName]) -> Result<Kind, BadChanges>
-    ensures { spec.NamesKind schemas.now kind.now result }
-{
-    let Kind::DroppedSchema { id, .. } = kind else {
-        let copy = kind.copy(alloc)?;
-        return Ok(copy);
-    };
-    let Some(name) = name_of(*id, schemas) else {
-        return Err(BadChanges::NoSchema { id: *id });
-    };
-    let name = name.copy(alloc)?;
-    Ok(Kind::DroppedSchema { id: *id, name })
-}
-
-fn name_of(id: u64, schemas: &[SchemaName]) -> Option<&Words>
-    ensures { option_copied result ≡ name_of schemas.now id }
-{
-    match schema_of(id, schemas) {
-        Some(schema) => Some(&schema.name),
-        None => None,
-    }
-}
-
-fn schema_of(id: u64, schemas: &[SchemaName]) -> Option<&SchemaName>
-    ensures { option_copied result ≡ find (λ schema. schema.id == id) schemas.now }
-{
-    schemas.iter().find(|schema| schema.id == id)
 }

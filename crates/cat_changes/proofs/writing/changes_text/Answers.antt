@@ -1,8 +1,6 @@
-use Rattle.std.proofs.Common.{◌≡◌, ◌++◌, ◌∷◌, [], List, ℕ, ap, ◌∙◌, flat_map, rules}
+use Rattle.std.proofs.Common.{◌≡◌, ◌++◌, ◌∷◌, List, ℕ, ap, ◌∙◌, flat_map, rules}
 use Rattle.std.specs.String.{string_bytes}
-use Rattle.std.specs.List.{AllByRecursion}
-use Rattle.lake_types.specs.Kinds.{kind_text, changes_text}
-use Rattle.cat_changes.specs.Changes.{HasId}
+use Rattle.lake_types.specs.Kinds.{kind_text}
 use Rattle.cat_changes.proofs.ListLemmas.{one_by_one}
 use Rattle.cat_changes.proofs.writing.changes_text.Goals as goal
 
