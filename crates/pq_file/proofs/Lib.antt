@@ -1,5 +1,11 @@
 pub mod AnswerLemmas
 pub mod CellLemmas
+pub mod CutLemmas
+pub mod GroupLemmas
+pub mod HeldLemmas
+pub mod LimitLemmas
+pub mod MetaLemmas
 pub mod PartLemmas
+pub mod PieceLemmas
 pub mod SheetLemmas
 pub mod TextLemmas

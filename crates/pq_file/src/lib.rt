@@ -1,16 +1,23 @@
-//! Whole Apache Parquet files: the sheet of columns that a file's bytes hold (Apache Parquet format, "File Format").
+//! Whole Apache Parquet files: the sheet of columns that a file's bytes hold, and
+//! the one file that is written for a sheet (Apache Parquet format, "File Format").
 #![tactic(auto)]
 
 mod cells;
+mod cuts;
 mod fault;
 mod frame;
 mod groups;
+mod limits;
 mod parts;
 mod ranges;
+mod raw;
 mod reading;
+mod writing;
 
 pub use fault::FileFault;
+pub use limits::is_writable;
 pub use reading::{read_columns, read_file};
+pub use writing::write_file;
 
 #[cfg(test)]
 mod tests;
