@@ -21,3 +21,5 @@ pub use writing::write_file;
 
 #[cfg(test)]
 mod tests;
+#[cfg(test)]
+mod written;
