@@ -1,17 +1,20 @@
 -- The chunks of a group and the groups of a file, one turn of a loop at a time.
-use Rattle.std.proofs.Common.{◌≡◌, ℕ, ◌+◌, ◌≤◌, ◌<◌, List, [], ◌∷◌, ◌++◌, length, drop, get_or, refl, sym, ap, ◌∙◌, append_assoc, arith, inl, inr}
+use Rattle.std.proofs.Common.{◌≡◌, ℕ, ◌+◌, ◌≤◌, ◌<◌, List, [], ◌∷◌, ◌++◌, length, take, drop, get_or, refl, sym, ap, ◌∙◌, append_assoc, arith, inl, inr}
+use Rattle.std.specs.Prelude.{All}
 use Rattle.std.specs.List.{flat_map, sum_by}
 use Rattle.std.proofs.lemmas.Bool.{cases_lt}
-use Rattle.std.proofs.lemmas.List.{append-nil, drop_all, drop_more, get_or_past, length-append}
+use Rattle.std.proofs.lemmas.List.{append-nil, drop-take, drop_all, drop_more, get_or_past, length-append, take-append-drop, take-take, take_all}
+use Rattle.std.proofs.lemmas.List.Elements.{All-append, All-nil}
 use Rattle.std.proofs.lemmas.List.Sums.{get_or-le-sum_by, sum_by-cons}
 use Rattle.lake_types.specs.declared.sheet.SheetColumn.{SheetColumn}
+use Rattle.lake_types.specs.declared.value.Value.{Value}
 use Rattle.lake_types.specs.declared.value.Value.TheVariants as value
 use Rattle.lake_types.specs.Weights.{weight}
 use Rattle.pq_meta.specs.declared.meta.MetaChunk.{MetaChunk}
 use Rattle.pq_meta.specs.declared.meta.MetaGroup.{MetaGroup}
-use Rattle.pq_file.specs.Canonical.{chunk_at, chunks_at, group_at, group_bytes, groups_at, groups_bytes, piece_bytes}
+use Rattle.pq_file.specs.Canonical.{HasPieceTexts, chunk_at, chunks_at, group_at, group_bytes, groups_at, groups_bytes, piece_bytes}
 use Rattle.pq_file.specs.Cuts.{cuts, row_weight, row_weights}
-use Rattle.pq_file.specs.Writable.{column_weight}
+use Rattle.pq_file.specs.Writable.{HasCellTexts, HasCells, HasText, column_weight}
 use Rattle.pq_file.proofs.CutLemmas.{no_weight}
 
 -- ---- weights
@@ -72,6 +75,28 @@ chunks_end row rows at columns chunks total so_far =
     sym one ∙ so_far
 
 pub ruleset group_turn = (bytes_go_on, bytes_end, chunks_go_on, chunks_end)
+
+-- ---- the texts
+
+pub joined : (row rows : ℕ) (cells : List Value) → take row cells ++ take rows (drop row cells) ≡ take (row + rows) cells
+joined row rows cells =
+    let front : take row (take (row + rows) cells) ≡ take row cells = take-take row (row + rows) cells (omega arith) in
+    let behind : drop row (take (row + rows) cells) ≡ take rows (drop row cells) = drop-take row rows cells in
+    rw (← front, ← behind) (take-append-drop row (take (row + rows) cells))
+
+pub no_texts : (columns : List SheetColumn) → All (HasPieceTexts 0 0) columns
+no_texts columns k d lt is = All-nil HasText
+
+pub more_texts : (columns : List SheetColumn) (row rows : ℕ) → All (HasPieceTexts 0 row) columns → All (HasPieceTexts row rows) columns → All (HasPieceTexts 0 (row + rows)) columns
+more_texts columns row rows before here k d lt is =
+    let cells : List Value = (get_or columns k d).cells in
+    rw (← joined row rows cells) (All-append HasText (take row cells) (take rows (drop row cells)) (before k d lt is) (here k d lt is))
+
+pub all_texts : (columns : List SheetColumn) (row rows : ℕ) → row ≤ rows → rows ≤ row → All (HasCells rows) columns → All (HasPieceTexts 0 row) columns → All HasCellTexts columns
+all_texts columns row rows low high counts texts k d lt is =
+    let cells : List Value = (get_or columns k d).cells in
+    let whole : take row cells ≡ cells = take_all row cells (omega (arith, counts k d lt)) in
+    rw whole at (texts k d lt is)
 
 -- ---- the groups
 

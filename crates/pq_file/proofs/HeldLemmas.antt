@@ -1,5 +1,5 @@
 -- What a chunk keeps of cells that fit their type is all that they are.
-use Rattle.std.proofs.Common.{◌≡◌, ◌≢◌, ℕ, ℤ, pos, negsuc, suc, ◌+◌, ◌*◌, ◌≤◌, ◌<◌, ◌^◌, ◌&&◌, List, [], ◌∷◌, ◌++◌, length, map, take, get_or, Bool, true, false, cond, Option, Some, None, refl, sym, ap, ◌∙◌, arith}
+use Rattle.std.proofs.Common.{◌≡◌, ◌≢◌, ℕ, ℤ, pos, negsuc, suc, ◌+◌, ◌*◌, ◌≤◌, ◌<◌, ◌^◌, ◌&&◌, List, [], ◌∷◌, ◌++◌, length, map, take, get_or, Bool, true, false, cond, Option, Some, None, refl, sym, ap, subst, ◌∙◌, arith}
 use Rattle.std.specs.Prelude.{All, IfSome, FitsSigned}
 use Rattle.std.specs.Int.{w32, w64}
 use Rattle.std.specs.Int.Signed.{mag}
@@ -7,7 +7,7 @@ use Rattle.std.specs.List.{cons_option, count_by, filter_map, flat_map, sum_by}
 use Rattle.std.specs.Str.{IsUtf8}
 use Rattle.std.proofs.lemmas.Bool.{leb-true, ltb-true}
 use Rattle.std.proofs.lemmas.List.{take_more}
-use Rattle.std.proofs.lemmas.List.Elements.{filter_map-append, All-cons, All-head, All-nil, All-tail, All-weaker}
+use Rattle.std.proofs.lemmas.List.Elements.{filter_map-append, All-cons, All-head, All-more, All-nil, All-tail, All-weaker}
 use Rattle.std.proofs.lemmas.List.Sums.{sum_by-cons}
 use Rattle.lake_types.specs.declared.value.ColType.{ColType}
 use Rattle.lake_types.specs.declared.value.ColType.TheVariants as ty
@@ -22,7 +22,12 @@ use Rattle.pq_pages.specs.Writing.{AreTexts}
 use Rattle.pq_file.specs.Cells.{blob_of, bool_of, cells_of, long_of, number_of, spread, string_of}
 use Rattle.pq_file.specs.Cells as read
 use Rattle.pq_file.specs.Raw.{bool_in, cell_bytes, int_bytes, is_value, long_bytes, number_in, raw_of, spelled, string_in, values_in}
-use Rattle.pq_file.specs.Writable.{HasText, IsShort}
+use Rattle.pq_file.specs.Writable.{HasText, HoldTexts, IsShort}
+
+-- ---- One element more
+
+pub one_more : {X : Type 0} (P : X → Type 0) (xs : List X) (i : ℕ) (x : X) → i < length xs → x ≡ get_or xs i x → All P (take i xs) → P x → All P (take (i + 1) xs)
+one_more P xs i x lt is before here = All-more P xs i x lt before (subst P is here)
 
 -- ---- Bytes, cell by cell
 
@@ -356,8 +361,8 @@ text_kept (value.Date n) h = tt
 text_cells : (cells : List Value) → All (Fits ty.Varchar) cells → All HasText cells → All TextCell cells
 text_cells cells fit text k d lt = record { fits = fit k d lt; text = text k d lt }
 
-pub values_texts : (t : ColType) (cells : List Value) → All (Fits t) cells → All HasText cells → read.is_text t ≡ true → AreTexts (values_in t cells)
-values_texts ty.Varchar cells h text is = all_kept (λ (x : List ℕ). IsUtf8 x) TextCell string_in text_kept cells (text_cells cells h text)
+pub values_texts : (t : ColType) (cells : List Value) → All (Fits t) cells → HoldTexts t cells → read.is_text t ≡ true → AreTexts (values_in t cells)
+values_texts ty.Varchar cells h text is = all_kept (λ (x : List ℕ). IsUtf8 x) TextCell string_in text_kept cells (text_cells cells h (text refl))
 values_texts ty.Bool cells h text is = cc
 values_texts ty.Int8 cells h text is = cc
 values_texts ty.Int16 cells h text is = cc

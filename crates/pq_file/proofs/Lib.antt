@@ -1,6 +1,8 @@
 pub mod AnswerLemmas
+pub mod BackLemmas
 pub mod CellLemmas
 pub mod CutLemmas
+pub mod FrameLemmas
 pub mod GroupLemmas
 pub mod HeldLemmas
 pub mod LimitLemmas

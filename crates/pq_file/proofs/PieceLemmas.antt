@@ -37,8 +37,8 @@ piece_small size optional t cells row rows few light =
 
 -- ---- The conditions of a chunk
 
-pub cells_fit : (column : SheetColumn) → IsColumn column → All (Fits column.ty) column.cells
-cells_fit column is = All-weaker (IsCell column.ty) (Fits column.ty) (λ v h. h.fits) column.cells is.cells
+pub all_fit : (column : SheetColumn) → IsColumn column → All (Fits column.ty) column.cells
+all_fit column is = All-weaker (IsCell column.ty) (Fits column.ty) (λ v h. h.fits) column.cells is.cells
 
 cells_short : (column : SheetColumn) → IsColumn column → All IsShort column.cells
 cells_short column is = All-weaker (IsCell column.ty) IsShort (λ v h. h.short) column.cells is.cells
@@ -58,7 +58,7 @@ pub piece_writable : BodySize → (column : SheetColumn) (row rows : ℕ) → Is
     → AreWritable column.optional (raw_of column.ty (piece_of row rows column))
 piece_writable size column row rows is light few =
     let piece : List Value = piece_of row rows column in
-    let kept = held column.ty piece (of_piece (Fits column.ty) column row rows (cells_fit column is)) in
+    let kept = held column.ty piece (of_piece (Fits column.ty) column row rows (all_fit column is)) in
     record {
       matched = kept.matched;
       required = λ e. All-map (λ (flag : Bool). flag ≡ true) is_value piece

@@ -14,11 +14,16 @@ use Rattle.pq_pages.specs.Writing.{chunk_bytes}
 use Rattle.pq_file.specs.Cuts.{cuts, row_weights}
 use Rattle.pq_file.specs.Frame.{mark}
 use Rattle.pq_file.specs.Raw.{raw_of}
+use Rattle.pq_file.specs.Writable.{HoldTexts}
 
 -- ---- A group: `rows` rows, from the one number `row` on
 
 abbrev pub piece_of : ℕ → ℕ → SheetColumn → List Value
 piece_of row rows column = take rows (drop row column.cells)
+
+-- the texts of a piece are UTF-8
+abbrev pub HasPieceTexts : ℕ → ℕ → SheetColumn → Type 0
+HasPieceTexts row rows column = HoldTexts column.ty (piece_of row rows column)
 
 -- the chunk of a column
 abbrev pub piece_bytes : ℕ → ℕ → SheetColumn → List ℕ

@@ -1,10 +1,11 @@
 -- Which sheets can be written.
-use Rattle.std.specs.Prelude.{◌≡◌, ◌≢◌, ◌≤◌, ℕ, ◌⊎◌, length, All, AllPairs, IfSome, None, true, false}
+use Rattle.std.specs.Prelude.{◌≡◌, ◌≢◌, ◌≤◌, ℕ, List, ◌⊎◌, length, All, AllPairs, IfSome, None, true, false}
 use Rattle.std.specs.List.{sum_by}
 use Rattle.std.specs.Str.{IsUtf8}
 use Rattle.lake_types.specs.declared.sheet.Sheet.{Sheet}
 use Rattle.lake_types.specs.declared.sheet.SheetColumn.{SheetColumn}
 use Rattle.lake_types.specs.declared.value.ColType.{ColType}
+use Rattle.lake_types.specs.declared.value.ColType.TheVariants as ty
 use Rattle.lake_types.specs.declared.value.Value.{Value}
 use Rattle.lake_types.specs.declared.value.Value.TheVariants as value
 use Rattle.lake_types.specs.Fits.{fits}
@@ -49,10 +50,23 @@ pub record IsWritable (sheet : Sheet) : Type 0 where
   pub fields : AllPairs OtherField sheet.columns
   pub light : sum_by column_weight sheet.columns ≤ 1073741824
 
--- The texts are UTF-8. Each text of a program is; a contract sees a text as a list of numbers.
+-- ---- Texts are UTF-8. A contract sees a text as a list of numbers.
+
 abbrev pub HasText : Value → Type 0
 HasText (value.Text x) = IsUtf8 x
 HasText v = Unit {0}
 
-abbrev pub HasTexts : Sheet → Type 0
-HasTexts sheet = All (λ (column : SheetColumn). All HasText column.cells) sheet.columns
+-- the cells of a column of texts
+abbrev pub HoldTexts : ColType → List Value → Type 0
+HoldTexts t cells = t ≡ ty.Varchar → All HasText cells
+
+abbrev pub HasName : SheetColumn → Type 0
+HasName column = IsUtf8 column.name
+
+abbrev pub HasCellTexts : SheetColumn → Type 0
+HasCellTexts column = HoldTexts column.ty column.cells
+
+-- all texts of a sheet
+pub record HasTexts (sheet : Sheet) : Type 0 where
+  pub names : All HasName sheet.columns
+  pub cells : All HasCellTexts sheet.columns

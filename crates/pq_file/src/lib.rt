@@ -7,6 +7,7 @@ mod cuts;
 mod fault;
 mod frame;
 mod groups;
+mod laws;
 mod limits;
 mod parts;
 mod ranges;
@@ -15,6 +16,7 @@ mod reading;
 mod writing;
 
 pub use fault::FileFault;
+pub use laws::reads_back;
 pub use limits::is_writable;
 pub use reading::{read_columns, read_file};
 pub use writing::write_file;

@@ -3,10 +3,11 @@
 ghost use Rattle.std.specs.Prelude.{◌≡◌, ◌≤◌, ◌++◌, [], All, IfOk, OnOk, length, map};
 ghost use Rattle.std.specs.List.{cons_option, filter_map, flat_map};
 ghost use Rattle.std.specs.Option.{option_copied};
+ghost use Rattle.lake_types.specs.declared.value.ColType.TheVariants.{Varchar};
 ghost use Rattle.pq_encodings.specs.Plain.{bool_bytes, string_bytes};
 ghost use Rattle.pq_encodings.specs.Values.{value_bytes};
 ghost use Rattle.pq_file.specs.Raw as spec;
-ghost use Rattle.pq_file.specs.Writable.{IsCell};
+ghost use Rattle.pq_file.specs.Writable.{HasText, HoldTexts, IsCell};
 
 use byteorder::{ByteOrder, LittleEndian};
 use lake_types::{ColType, NoMemory, Value};
@@ -34,7 +35,8 @@ fn number_in(cell: &Value) -> Option<i64>
 }
 
 fn string_in(cell: &Value) -> Option<&[u8]>
-    ensures { option_copied result ≡ spec.string_in cell.now }
+    ensures string { option_copied result ≡ spec.string_in cell.now }
+    ensures text { HasText cell.now }
 {
     match cell {
         Value::Text(text) => Some(text.as_str().as_bytes()),
@@ -73,7 +75,8 @@ fn push_string(out: &mut Vec<u8>, string: &[u8]) -> Result<(), NoMemory>
 /// Appends the plain bytes of a cell of a type other than BOOLEAN.
 fn push_cell(out: &mut Vec<u8>, ty: ColType, cell: &Value) -> Result<(), NoMemory>
     requires { IsCell ty cell.now }
-    ensures { OnOk result (out.new.items ≡ out.old.items ++ spec.cell_bytes ty cell.now) }
+    ensures bytes { OnOk result (out.new.items ≡ out.old.items ++ spec.cell_bytes ty cell.now) }
+    ensures text { ty ≡ Varchar → HasText cell.now }
 {
     match ty {
         ColType::Bool => Ok(()),
@@ -95,7 +98,8 @@ fn push_cell(out: &mut Vec<u8>, ty: ColType, cell: &Value) -> Result<(), NoMemor
 /// The plain bytes of the cells, one by one.
 fn cells_bytes(alloc: Global, ty: ColType, cells: &[Value]) -> Result<Vec<u8>, NoMemory>
     requires { All (IsCell ty) cells.now }
-    ensures { IfOk result (λ v. v.items ≡ flat_map (spec.cell_bytes ty) cells.now) }
+    ensures bytes { IfOk result (λ v. v.items ≡ flat_map (spec.cell_bytes ty) cells.now) }
+    ensures texts { OnOk result (HoldTexts ty cells.now) }
 {
     let mut out = Vec::new(alloc);
     for cell in cells {
@@ -137,7 +141,8 @@ fn bools_bytes(alloc: Global, cells: &[Value]) -> Result<Vec<u8>, NoMemory>
 /// The plain bytes of the values among the cells of a column.
 pub fn values_bytes(alloc: Global, ty: ColType, cells: &[Value]) -> Result<Vec<u8>, NoMemory>
     requires { All (IsCell ty) cells.now }
-    ensures { IfOk result (λ v. v.items ≡ value_bytes (spec.values_in ty cells.now)) }
+    ensures bytes { IfOk result (λ v. v.items ≡ value_bytes (spec.values_in ty cells.now)) }
+    ensures texts { OnOk result (HoldTexts ty cells.now) }
 {
     match ty {
         ColType::Bool => bools_bytes(alloc, cells),

@@ -1,9 +1,11 @@
 //! The one file that is written for a sheet.
 
-ghost use Rattle.std.specs.Prelude.{◌≡◌, ◌≤◌, ◌<◌, ◌+◌, ◌++◌, ◌^◌, All, IfOk, OnOk, length, map};
+ghost use Rattle.std.specs.Prelude.{◌≡◌, ◌≤◌, ◌<◌, ◌+◌, ◌++◌, ◌^◌, None, All, IfOk, OnOk, length, map};
 ghost use Rattle.std.specs.List.{sum_by};
 ghost use Rattle.pq_file.specs.Canonical as spec;
-ghost use Rattle.pq_file.specs.Writable.{HasCells, IsColumn, IsWritable, column_weight};
+ghost use Rattle.pq_file.specs.Canonical.{HasPieceTexts};
+ghost use Rattle.pq_file.specs.Reading.{file_of};
+ghost use Rattle.pq_file.specs.Writable.{HasCellTexts, IsColumn, IsWritable, column_weight};
 
 use crate::cuts::group_rows;
 use crate::frame::MARK;
@@ -11,7 +13,7 @@ use crate::raw::{flags_of, values_bytes};
 use byteorder::{ByteOrder, LittleEndian};
 use lake_types::{Copied, Listed, NoMemory, Sheet, SheetColumn};
 use pq_meta::{FileMeta, MetaChunk, MetaColumn, MetaGroup, write_meta};
-use pq_pages::{body_size, push_chunk};
+use pq_pages::{body_size, push_chunk, reads_back};
 use std::alloc::{AllocError, Global};
 
 /// Appends the chunk of a column's cells in a group.
@@ -26,7 +28,8 @@ fn push_piece(
     requires light { column_weight column.now ≤ 1073741824 }
     requires within { row + rows ≤ length column.now.cells }
     requires few { rows ≤ 4194304 }
-    ensures { OnOk result (out.new.items ≡ out.old.items ++ spec.piece_bytes row rows column.now) }
+    ensures bytes { OnOk result (out.new.items ≡ out.old.items ++ spec.piece_bytes row rows column.now) }
+    ensures texts { OnOk result (HasPieceTexts row rows column.now) }
 {
     body_size();
     let cells = &column.cells.as_slice()[row..row + rows];
@@ -55,6 +58,7 @@ fn push_placed(
     requires few { rows ≤ 4194304 }
     ensures bytes { OnOk result (out.new.items ≡ out.old.items ++ spec.piece_bytes row rows column.now) }
     ensures chunk { IfOk result (λ chunk. chunk ≡ spec.chunk_at row rows (length out.old.items) column.now) }
+    ensures texts { OnOk result (HasPieceTexts row rows column.now) }
 {
     let first = out.len();
     push_piece(alloc, out, column, row, rows)?;
@@ -81,6 +85,7 @@ fn push_group(
     requires few { rows ≤ 4194304 }
     ensures bytes { OnOk result (out.new.items ≡ out.old.items ++ spec.group_bytes columns.now row rows) }
     ensures group { IfOk result (λ group. group ≡ spec.group_at row rows (length out.old.items) columns.now) }
+    ensures texts { OnOk result (All (HasPieceTexts row rows) columns.now) }
 {
     let mut chunks = Listed::new(alloc);
     for column in columns {
@@ -102,6 +107,7 @@ fn push_groups(
     requires { IsWritable sheet.now }
     ensures bytes { OnOk result (out.new.items ≡ out.old.items ++ spec.groups_bytes sheet.now.columns 0 (spec.cuts_of sheet.now)) }
     ensures groups { IfOk result (λ groups. groups ≡ spec.groups_at sheet.now.columns 0 (length out.old.items) (spec.cuts_of sheet.now)) }
+    ensures texts { OnOk result (All HasCellTexts sheet.now.columns) }
 {
     let columns = sheet.columns.as_slice();
     let rows = sheet.rows as usize;
@@ -138,7 +144,8 @@ fn meta_columns(alloc: Global, columns: &[SheetColumn]) -> Result<Listed<MetaCol
 
 /// Appends the footer, its length and the mark. A footer whose length does not fit four bytes wants more memory than there is.
 fn push_footer(out: &mut Vec<u8>, footer: &[u8]) -> Result<(), NoMemory>
-    ensures { OnOk result (out.new.items ≡ out.old.items ++ spec.footer_part footer.now) }
+    ensures bytes { OnOk result (out.new.items ≡ out.old.items ++ spec.footer_part footer.now) }
+    ensures small { OnOk result (length footer.now < 2 ^ 32) }
 {
     if footer.len() > u32::MAX as usize {
         return Err(AllocError);
@@ -159,7 +166,10 @@ fn push_footer(out: &mut Vec<u8>, footer: &[u8]) -> Result<(), NoMemory>
 pub fn write_file(alloc: Global, sheet: &Sheet) -> Result<Vec<u8>, NoMemory>
     requires { IsWritable sheet.now }
     ensures bytes { IfOk result (λ file. file.items ≡ spec.canonical sheet.now) }
+    ensures back { IfOk result (λ file. file_of None file.items ≡ Ok sheet.now) }
 {
+    body_size();
+    reads_back();
     let mut file = Vec::new(alloc);
     file.extend_from_slice(&MARK)?;
     let groups = push_groups(alloc, &mut file, sheet)?;

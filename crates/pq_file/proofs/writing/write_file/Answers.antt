@@ -1,8 +1,11 @@
-use Rattle.std.proofs.Common.{◌≡◌, ℕ, ◌+◌, ◌<◌, ◌^◌, ◌++◌, List, length, map, refl, ap, ◌∙◌, arith, rules, length-append}
+use Rattle.std.proofs.Common.{◌≡◌, ℕ, ◌+◌, ◌<◌, ◌^◌, ◌++◌, List, length, map, Ok, refl, ap, ◌∙◌, arith, rules, length-append}
 use Rattle.lake_types.specs.declared.sheet.Sheet.{Sheet}
 use Rattle.pq_meta.specs.declared.meta.FileMeta.{FileMeta}
-use Rattle.pq_file.specs.Canonical.{cuts_of, groups_at, groups_bytes, meta_column, meta_of}
+use Rattle.pq_meta.specs.Footers.{footer_of}
+use Rattle.pq_meta.specs.Spelling.{footer_bytes}
+use Rattle.pq_file.specs.Canonical.{canonical, cuts_of, groups_at, groups_bytes, meta_column, meta_of}
 use Rattle.pq_file.specs.Frame.{mark}
+use Rattle.pq_file.proofs.BackLemmas.{file_read}
 use Rattle.pq_file.proofs.MetaLemmas.{canonical_is, meta_writable}
 use Rattle.pq_file.proofs.writing.write_file.Goals as goal
 
@@ -31,4 +34,12 @@ returns c =
     c.in_ok-groups.ensures.bytes ∙ ap (λ (xs : List ℕ). xs ++ groups_bytes sheet.columns 0 (cuts_of sheet)) before in
     let meta : FileMeta = record { columns = c.in_ok-meta_columns.field-0; num_rows = sheet.rows; groups = c.in_ok-groups.groups } in
     let says : meta ≡ meta_of sheet = rw (columns, groups) refl in
-    record { bytes = canonical_is sheet meta c.push_groups.new.out.items c.push_footer.new.out.items c.as_slice-2.result.now bytes says (search rules) (search rules) }
+    let footer : c.as_slice-2.result.now ≡ footer_bytes meta = search rules in
+    let written : c.push_footer.new.out.items ≡ canonical sheet =
+    canonical_is sheet meta c.push_groups.new.out.items c.push_footer.new.out.items c.as_slice-2.result.now bytes says footer (search rules) in
+    let read : footer_of c.as_slice-2.result.now ≡ Ok meta = search rules in
+    record {
+      bytes = written;
+      back = file_read c.reads_back.ensures c.body_size.ensures sheet meta c.push_footer.new.out.items c.as_slice-2.result.now c.requires c.in_ok-groups.ensures.texts says footer
+          c.in_ok-push_footer.ensures.small read written;
+    }
