@@ -1,5 +1,5 @@
 -- Faults, handed on.
-use Rattle.std.proofs.Common.{◌≡◌, ℕ, Result, Ok, Err, refl}
+use Rattle.std.proofs.Common.{◌≡◌, ℕ, Result, Err, refl}
 use Rattle.pq_meta.specs.declared.fault.MetaFault.{MetaFault}
 use Rattle.pq_meta.specs.declared.fault.MetaFault.TheVariants as meta
 use Rattle.pq_meta.specs.Checks.{Stops}

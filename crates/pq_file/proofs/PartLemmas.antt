@@ -1,15 +1,13 @@
--- The parts of a group and the groups of a file, one turn of a loop at a time.
-use Rattle.std.proofs.Common.{◌≡◌, ℕ, pos, ◌+◌, ◌<◌, List, [], ◌∷◌, ◌++◌, Bool, true, false, length, drop, get_or, Option, Result, Ok, Err, refl, sym, ap, ◌∙◌, append_assoc, add-one, drop-cons}
+-- The parts of a group, one turn of a loop at a time.
+use Rattle.std.proofs.Common.{◌≡◌, ℕ, pos, ◌+◌, ◌<◌, List, [], ◌∷◌, ◌++◌, true, false, length, drop, get_or, Option, Result, Ok, Err, refl, sym, ap, ◌∙◌, append_assoc, add-one, drop-cons}
 use Rattle.std.proofs.lemmas.List.{append-nil}
 use Rattle.std.proofs.Math.Seq.{drop-length}
 use Rattle.pq_meta.specs.declared.meta.MetaColumn.{MetaColumn}
 use Rattle.pq_meta.specs.declared.meta.MetaChunk.{MetaChunk}
-use Rattle.pq_meta.specs.declared.meta.MetaGroup.{MetaGroup}
 use Rattle.pq_file.specs.declared.fault.FileFault.{FileFault}
 use Rattle.pq_file.specs.declared.parts.Part.{Part}
-use Rattle.pq_file.specs.declared.parts.GroupParts.{GroupParts}
 use Rattle.pq_file.specs.Answers.{◌then◌, Fails}
-use Rattle.pq_file.specs.Reading.{groups_in, is_wanted, part_of, parts_in}
+use Rattle.pq_file.specs.Reading.{is_wanted, part_of, parts_in}
 use Rattle.pq_file.proofs.AnswerLemmas.{handed_on}
 
 -- what is there already, before what is still read
@@ -23,10 +21,8 @@ regroup front b (Err e) = refl
 nothing_more : {B : Type 0} (front : List B) → with_front front (Ok []) ≡ Ok front
 nothing_more front = ap (λ x. Ok x) (append-nil front)
 
-next_of : {A : Type 0} (xs : List A) (i : ℕ) (x : A) → i < length xs → x ≡ get_or xs i x → drop i xs ≡ x ∷ drop (i + 1) xs
+pub next_of : {A : Type 0} (xs : List A) (i : ℕ) (x : A) → i < length xs → x ≡ get_or xs i x → drop i xs ≡ x ∷ drop (i + 1) xs
 next_of xs i x lt is = rw add-one (rw (drop-cons xs i x) (rw (← is) refl))
-
--- ---- parts
 
 abbrev pub parts_from : List ℕ → Option (List ℕ) → ℕ → ℕ → List MetaColumn → List MetaChunk → Result (List Part) FileFault
 parts_from bytes fields group i columns chunks = parts_in bytes fields group i (drop i columns) (drop i chunks)
@@ -75,35 +71,3 @@ parts_end bytes fields group columns chunks front total so_far =
     sym so_far ∙ one
 
 pub ruleset parts_turn = (parts_go_on, parts_pass, parts_fail, parts_end)
-
--- ---- groups
-
-abbrev pub groups_from : List ℕ → Option (List ℕ) → List MetaColumn → ℕ → List MetaGroup → Result (List GroupParts) FileFault
-groups_from bytes fields columns i groups = groups_in bytes fields columns i (drop i groups)
-
-pub groups_go_on : (bytes : List ℕ) (fields : Option (List ℕ)) (columns : List MetaColumn) (i : ℕ) (groups : List MetaGroup) (group : MetaGroup) (front : List GroupParts) (parts : List Part)
-    (total : Result (List GroupParts) FileFault)
-    → i < length groups → group ≡ get_or groups i group → parts_in bytes fields i 0 columns group.chunks ≡ Ok parts
-    → with_front front (groups_from bytes fields columns i groups) ≡ total
-    → with_front (front ++ (record { rows = group.rows; parts = parts }) ∷ []) (groups_from bytes fields columns (i + 1) groups) ≡ total
-groups_go_on bytes fields columns i groups group front parts total lt is read so_far =
-    let one : with_front front (groups_from bytes fields columns i groups) ≡ with_front (front ++ (record { rows = group.rows; parts = parts }) ∷ []) (groups_from bytes fields columns (i + 1) groups) =
-    rw (next_of groups i group lt is, read) (regroup front (record { rows = group.rows; parts = parts }) (groups_from bytes fields columns (i + 1) groups)) in
-    sym one ∙ so_far
-
-pub groups_fail : (bytes : List ℕ) (fields : Option (List ℕ)) (columns : List MetaColumn) (i : ℕ) (groups : List MetaGroup) (group : MetaGroup) (front : List GroupParts) (e : FileFault)
-    (total : Result (List GroupParts) FileFault)
-    → i < length groups → group ≡ get_or groups i group → Fails e (parts_in bytes fields i 0 columns group.chunks)
-    → with_front front (groups_from bytes fields columns i groups) ≡ total → Fails e total
-groups_fail bytes fields columns i groups group front e total lt is read so_far =
-    rw (← so_far) (rw (next_of groups i group lt is)
-    (handed_on e _ _ (handed_on e (parts_in bytes fields i 0 columns group.chunks)
-    (λ parts. groups_from bytes fields columns (i + 1) groups then λ gs. Ok (record { rows = group.rows; parts = parts } ∷ gs)) read)))
-
-pub groups_end : (bytes : List ℕ) (fields : Option (List ℕ)) (columns : List MetaColumn) (groups : List MetaGroup) (front : List GroupParts) (total : Result (List GroupParts) FileFault)
-    → with_front front (groups_from bytes fields columns (length groups) groups) ≡ total → total ≡ Ok front
-groups_end bytes fields columns groups front total so_far =
-    let one : with_front front (groups_from bytes fields columns (length groups) groups) ≡ Ok front = rw drop-length (nothing_more front) in
-    sym so_far ∙ one
-
-pub ruleset groups_turn = (groups_go_on, groups_fail, groups_end)

@@ -1,5 +1,5 @@
 -- What a call may answer where its definition gives a value or the first fault.
-use Rattle.std.specs.Prelude.{◌≡◌, ℕ, List, Result, Ok, Err}
+use Rattle.std.specs.Prelude.{◌≡◌, ℕ, Result, Ok, Err}
 use Rattle.pq_meta.specs.declared.fault.MetaFault.{MetaFault}
 use Rattle.pq_meta.specs.declared.fault.MetaFault.TheVariants as meta
 use Rattle.pq_pages.specs.declared.fault.PageFault.{PageFault}

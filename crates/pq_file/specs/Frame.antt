@@ -1,5 +1,5 @@
 -- The frame of a file: `PAR1`, the chunks, the footer, its length in four bytes, `PAR1` (Apache Parquet format, "File Format").
-use Rattle.std.specs.Prelude.{ℕ, ◌+◌, ◌-◌, ◌&&◌, nat_lt, nat_eq, codes, if◌then◌else◌, List, length, take, drop, Result, Ok, Err, Bool}
+use Rattle.std.specs.Prelude.{ℕ, ◌-◌, ◌&&◌, nat_lt, nat_eq, codes, if◌then◌else◌, List, length, take, drop, Result, Ok, Err, Bool}
 use Rattle.std.specs.Cmp.Lexicographic.{pointwise}
 use Rattle.byteorder.specs.Endian.{little_number}
 use Rattle.pq_file.specs.declared.fault.FileFault.{FileFault}

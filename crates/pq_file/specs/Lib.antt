@@ -2,7 +2,9 @@ pub mod Answers
 pub mod Frame
 pub mod Cells
 pub mod Reading
+pub mod Joining
+pub mod Sheets
 pub mod Cuts
 pub mod Raw
-pub mod Canonical
 pub mod Writable
+pub mod Canonical

@@ -1,9 +1,8 @@
 //! The chunks of a file's groups.
 
-ghost use Rattle.std.specs.Prelude.{◌≡◌, All, IfOk, length, map, true};
+ghost use Rattle.std.specs.Prelude.{◌≡◌, IfOk, length, true};
 ghost use Rattle.std.specs.Option.{option_copied};
 ghost use Rattle.pq_encodings.specs.Values.{values_of};
-ghost use Rattle.pq_meta.specs.Consistency.{FitsColumns};
 ghost use Rattle.pq_pages.specs.Pages.{cells_of as raw_of, chunk_of};
 ghost use Rattle.pq_pages.specs.Writing.{AreTexts};
 ghost use Rattle.pq_file.specs.Answers.{Answers, Gives, of_page};
@@ -11,9 +10,9 @@ ghost use Rattle.pq_file.specs.Reading as spec;
 
 use crate::cells::{cells_of, is_text, kind_of};
 use crate::fault::{FileFault, page_fault};
-use crate::parts::{GroupParts, Part};
+use crate::parts::Part;
 use lake_types::Listed;
-use pq_meta::{MetaChunk, MetaColumn, MetaGroup};
+use pq_meta::{MetaChunk, MetaColumn};
 use pq_pages::{ChunkSpec, RawCells, read_chunk};
 use std::alloc::Global;
 
@@ -113,7 +112,7 @@ fn part_of(
 
 /// The parts of a group that are wanted.
 #[tactic(auto, using(crate::proofs::PartLemmas::parts_turn))]
-fn parts_in(
+pub fn parts_in(
     alloc: Global,
     bytes: &[u8],
     fields: Option<&[u32]>,
@@ -136,37 +135,4 @@ fn parts_in(
         }
     }
     Ok(parts)
-}
-
-/// What is read of a file's groups.
-#[tactic(auto, using(crate::proofs::PartLemmas::groups_turn))]
-pub fn groups_in(
-    alloc: Global,
-    bytes: &[u8],
-    fields: Option<&[u32]>,
-    columns: &[MetaColumn],
-    groups: &[MetaGroup],
-) -> Result<Listed<GroupParts>, FileFault>
-    requires { All (FitsColumns (length columns.now)) groups.now }
-    ensures exact { Answers result (spec.groups_in bytes.now (option_copied fields.entry) columns.now 0 groups.now) }
-    ensures rows { IfOk result (λ parts. map spec.rows_in parts ≡ map spec.stated_rows groups.now) }
-{
-    let mut read = Listed::new(alloc);
-    for (number, group) in groups.iter().enumerate() {
-        match parts_in(
-            alloc,
-            bytes,
-            fields,
-            number as u64,
-            columns,
-            group.chunks.as_slice(),
-        ) {
-            Ok(parts) => read.push(GroupParts {
-                rows: group.rows,
-                parts,
-            })?,
-            Err(fault) => return Err(fault),
-        }
-    }
-    Ok(read)
 }

@@ -13,12 +13,14 @@ mod parts;
 mod ranges;
 mod raw;
 mod reading;
+mod sound;
 mod writing;
 
 pub use fault::FileFault;
 pub use laws::reads_back;
 pub use limits::is_writable;
 pub use reading::{read_columns, read_file};
+pub use sound::reads_sound;
 pub use writing::write_file;
 
 #[cfg(test)]

@@ -16,3 +16,12 @@ pub struct GroupParts {
     /// The columns that are read, in order.
     pub parts: Listed<Part>,
 }
+
+/// A cell that does not fit its column's type.
+#[derive(Clone, Copy, Debug)]
+pub struct Misfit {
+    /// The column's place among all columns of the file.
+    pub column: u64,
+    /// The row, counted in the whole file.
+    pub row: u64,
+}

@@ -1,20 +1,24 @@
 //! The sheet that a file holds.
 
-ghost use Rattle.std.specs.Prelude.{◌≡◌, ◌≤◌, ◌∷◌, List, None, Some, IfOk, filter, fold, map};
+ghost use Rattle.std.specs.Prelude.{◌≡◌, ◌≤◌, ◌<◌, ◌^◌, ◌∷◌, List, All, None, Some, IfOk, filter, length, map};
+ghost use Rattle.std.specs.List.{sum_by};
 ghost use Rattle.std.specs.Option.{option_copied};
 ghost use Rattle.std.specs.Vec.Iter.{into_iter_items};
 ghost use Rattle.lake_types.specs.declared.sheet.SheetColumn.{SheetColumn};
-ghost use Rattle.pq_meta.specs.Consistency.{IsConsistent};
+ghost use Rattle.pq_meta.specs.Consistency.{FitsColumns, IsConsistent};
 ghost use Rattle.pq_file.specs.Answers.{Answers};
+ghost use Rattle.pq_file.specs.Joining as joining;
 ghost use Rattle.pq_file.specs.Reading as spec;
+ghost use Rattle.pq_file.specs.Sheets.{IsSound};
 
 use crate::fault::{FileFault, meta_fault};
 use crate::frame::footer_in;
-use crate::groups::{groups_in, is_wanted};
-use crate::parts::{GroupParts, Part};
-use crate::ranges::groups_fit;
+use crate::groups::{is_wanted, parts_in};
+use crate::parts::{Misfit, Part};
+use crate::ranges::misfit_in;
+use crate::sound::reads_sound;
 use lake_types::{Copied, Listed, NoMemory, Sheet, SheetColumn, SheetColumns, ValueList};
-use pq_meta::{FileMeta, MetaColumn, read_meta};
+use pq_meta::{FileMeta, MetaColumn, MetaGroup, read_meta};
 use std::alloc::Global;
 use std::vec::IntoIter;
 
@@ -110,33 +114,39 @@ fn beside(
 }
 
 /// The columns with the parts of all groups.
+///
+/// The parts of a group join the columns as soon as they are read, so that no cell is held twice. A cell that does not
+/// fit its column's type is a fault once all chunks are read.
+#[tactic(auto, using(crate::proofs::JoinLemmas::groups_turn))]
 fn joined(
     alloc: Global,
+    bytes: &[u8],
+    fields: Option<&[u32]>,
+    metas: &[MetaColumn],
+    groups: &[MetaGroup],
     bare: SheetColumns,
-    groups: Listed<GroupParts>,
-) -> Result<SheetColumns, NoMemory>
-    ensures { IfOk result (λ columns. columns ≡ fold spec.with_group bare groups) }
+) -> Result<SheetColumns, FileFault>
+    requires fit { All (FitsColumns (length metas.now)) groups.now }
+    requires few { sum_by spec.stated_rows groups.now < 2 ^ 63 }
+    ensures { Answers result (joining.joined bytes.now (option_copied fields.entry) metas.now 0 0 (joining.verdict None) bare groups.now) }
 {
     let mut columns = bare;
-    for group in groups.into_vec() {
-        columns = beside(alloc, columns, group.parts)?;
+    let mut misfit = None;
+    let mut row = 0u64;
+    for (number, group) in groups.iter().enumerate() {
+        let chunks = group.chunks.as_slice();
+        let parts = match parts_in(alloc, bytes, fields, number as u64, metas, chunks) {
+            Ok(parts) => parts,
+            Err(fault) => return Err(fault),
+        };
+        misfit = misfit.or(misfit_in(row, parts.as_slice()));
+        row += group.rows;
+        columns = beside(alloc, columns, parts)?;
     }
-    Ok(columns)
-}
-
-fn sheet_of(
-    alloc: Global,
-    fields: Option<&[u32]>,
-    meta: &FileMeta,
-    groups: Listed<GroupParts>,
-) -> Result<Sheet, NoMemory>
-    ensures { IfOk result (λ sheet. sheet ≡ spec.sheet_of (option_copied fields.entry) meta.now groups) }
-{
-    let bare = bare_columns(alloc, fields, meta.columns.as_slice())?;
-    Ok(Sheet {
-        columns: joined(alloc, bare, groups)?,
-        rows: meta.num_rows,
-    })
+    match misfit {
+        None => Ok(columns),
+        Some(Misfit { column, row }) => Err(FileFault::BadCell { column, row }),
+    }
 }
 
 fn few_rows(rows: u64) -> Result<(), FileFault>
@@ -151,7 +161,7 @@ fn few_rows(rows: u64) -> Result<(), FileFault>
 }
 
 /// What a footer's chunks hold, in the order of faults.
-#[tactic(auto, using(crate::proofs::AnswerLemmas::handed_on, crate::proofs::SheetLemmas::few_read), unfolding(crate::specs::Reading::sheet_in))]
+#[tactic(auto, using(crate::proofs::AnswerLemmas::handed_on, crate::proofs::JoinLemmas::sheets), unfolding(crate::specs::Reading::sheet_in))]
 fn sheet_in(
     alloc: Global,
     bytes: &[u8],
@@ -165,18 +175,16 @@ fn sheet_in(
         Ok(()) => {}
         Err(fault) => return Err(fault),
     }
-    let columns = meta.columns.as_slice();
-    let groups = match groups_in(alloc, bytes, fields, columns, meta.groups.as_slice()) {
-        Ok(groups) => groups,
-        Err(fault) => return Err(fault),
+    let metas = meta.columns.as_slice();
+    let Ok(bare) = bare_columns(alloc, fields, metas) else {
+        return Err(FileFault::Memory);
     };
-    match groups_fit(groups.as_slice()) {
-        Ok(()) => {}
-        Err(fault) => return Err(fault),
-    }
-    match sheet_of(alloc, fields, meta, groups) {
-        Ok(sheet) => Ok(sheet),
-        Err(_) => Err(FileFault::Memory),
+    match joined(alloc, bytes, fields, metas, meta.groups.as_slice(), bare) {
+        Ok(columns) => Ok(Sheet {
+            columns,
+            rows: meta.num_rows,
+        }),
+        Err(fault) => Err(fault),
     }
 }
 
@@ -202,8 +210,14 @@ fn file_of(alloc: Global, fields: Option<&[u32]>, bytes: &[u8]) -> Result<Sheet,
 /// by group, column and row. No memory is taken for rows of a file that has more than 4,194,304, nor for a value of more
 /// than 16,777,216 bytes.
 pub fn read_file(alloc: Global, bytes: &[u8]) -> Result<Sheet, FileFault>
+    // The sheet, exactly where the file holds one; else the first fault.
     ensures exact { Answers result (spec.file_of None bytes.now) }
+
+    // Each column has a cell for each row, of its type, and NULL only where it is optional; field ids differ.
+    ensures sound { IfOk result IsSound }
 {
+    // The law on which the last clause stands.
+    reads_sound();
     file_of(alloc, None, bytes)
 }
 
@@ -212,7 +226,13 @@ pub fn read_file(alloc: Global, bytes: &[u8]) -> Result<Sheet, FileFault>
 /// The chunks of other columns are not looked at, so nothing in them is a fault. In a fault the column is its place among
 /// all columns of the file.
 pub fn read_columns(alloc: Global, bytes: &[u8], fields: &[u32]) -> Result<Sheet, FileFault>
+    // The sheet of these columns, exactly where the file holds one; else the first fault.
     ensures exact { Answers result (spec.file_of (Some fields.now) bytes.now) }
+
+    // It is sound, as a whole one is.
+    ensures sound { IfOk result IsSound }
 {
+    // The law on which the last clause stands.
+    reads_sound();
     file_of(alloc, Some(fields), bytes)
 }

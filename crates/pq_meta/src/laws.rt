@@ -1,7 +1,8 @@
-//! What holds of the spelling. The function's contract is a law, and its body is empty.
+//! What holds of footers. Each function's contract is a law, and its body is empty.
 
-ghost use Rattle.std.specs.Prelude.{◌≡◌, All, Ok};
+ghost use Rattle.std.specs.Prelude.{◌≡◌, ℕ, All, List, Ok};
 ghost use Rattle.pq_meta.specs.declared.meta.FileMeta.{FileMeta};
+ghost use Rattle.pq_meta.specs.Consistency.{IsConsistent};
 ghost use Rattle.pq_meta.specs.Footers.{footer_of};
 ghost use Rattle.pq_meta.specs.Spelling.{HasText, IsWritable, footer_bytes};
 
@@ -9,4 +10,9 @@ ghost use Rattle.pq_meta.specs.Spelling.{HasText, IsWritable, footer_bytes};
 pub fn reads_back()
     ensures { (meta : FileMeta) → IsWritable meta → All HasText meta.columns
         → footer_of (footer_bytes meta) ≡ Ok meta }
+{}
+
+/// The parts of a footer that is read fit together.
+pub fn reads_consistent()
+    ensures { (bytes : List ℕ) (meta : FileMeta) → footer_of bytes ≡ Ok meta → IsConsistent meta }
 {}

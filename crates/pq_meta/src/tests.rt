@@ -155,6 +155,25 @@ fn other_faults(rt: HostRuntime) {
     assert!(rt; is_unknown_type(read_changed(alloc, 22, 0x25), 2));
 }
 
+#[test]
+fn faults_of_bytes(rt: HostRuntime) {
+    // Seventeen structs inside one another in a field that is not known, a field of no type, and 2^32 - 1 elements
+    // of a schema in no bytes.
+    let mut deep = [0x1c_u8; 17];
+    deep[0] = 0x9c;
+    let rows: [(&[u8], ThriftFault); 3] = [
+        (&deep, ThriftFault::TooDeep { at: 17 }),
+        (&[0x1d], ThriftFault::BadType { at: 0, ty: 13 }),
+        (
+            &[0x15, 0x02, 0x19, 0xfc, 255, 255, 255, 255, 15],
+            ThriftFault::Short { at: 9 },
+        ),
+    ];
+    for (bytes, fault) in rows {
+        assert!(rt; is_thrift(read_meta(rt.alloc(), bytes), fault));
+    }
+}
+
 /// The footer with other bytes in place of its column's element.
 fn read_element(alloc: Global, element: &[u8]) -> Result<FileMeta, MetaFault> {
     let mut footer = Vec::new(alloc);

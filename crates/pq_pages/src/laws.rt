@@ -1,7 +1,9 @@
 //! What holds of written chunks. Each function's contract is a law.
 
-ghost use Rattle.std.specs.Prelude.{◌≡◌, ◌≤◌, ◌+◌, ◌*◌, Bool, Ok, length, true};
+ghost use Rattle.std.specs.Prelude.{◌≡◌, ◌≤◌, ◌+◌, ◌*◌, ℕ, Bool, List, Ok, length, true};
 ghost use Rattle.pq_encodings.specs.Values.{AreInRange, plain_size};
+ghost use Rattle.pq_pages.specs.declared.chunk.ChunkSpec.{ChunkSpec};
+ghost use Rattle.pq_pages.specs.Fitting.{FitSpec};
 ghost use Rattle.pq_pages.specs.Pages.{Cells, chunk_of};
 ghost use Rattle.pq_pages.specs.Writing.{AreTexts, AreWritable, body_bytes, chunk_bytes, spec_of};
 
@@ -12,6 +14,13 @@ pub fn reads_back()
 {
     thrift_compact::reads_back();
     pq_encodings::reads_back();
+}
+
+/// What is read of a chunk fits what is said of it.
+pub fn reads_as_said()
+    ensures { (spec : ChunkSpec) (bytes : List ℕ) (cells : Cells) → chunk_of spec bytes ≡ Ok cells → FitSpec spec cells }
+{
+    pq_encodings::reads_as_asked();
 }
 
 /// How many bytes a written page has at most, behind its header.

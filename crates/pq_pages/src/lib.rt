@@ -21,7 +21,7 @@ mod writing;
 
 pub use chunk::{ChunkSpec, RawCells};
 pub use fault::PageFault;
-pub use laws::{body_size, reads_back};
+pub use laws::{body_size, reads_as_said, reads_back};
 pub use reading::read_chunk;
 pub use writing::{push_chunk, write_chunk};
 

@@ -10,8 +10,8 @@ ghost use Rattle.pq_pages.specs.declared.fault.PageFault.TheVariants.{Compressed
 use crate::chunk::{ChunkSpec, RawCells};
 use crate::column::Column;
 use crate::fault::PageFault;
+use crate::laws::reads_as_said;
 use crate::pages::read_pages;
-use pq_encodings::reads_as_asked;
 use std::alloc::Global;
 use thrift_compact::Reader;
 
@@ -55,6 +55,6 @@ pub fn read_chunk(alloc: Global, bytes: &[u8], spec: &ChunkSpec) -> Result<RawCe
     ensures fit { IfOk result (λ cells. FitSpec spec.now (cells_of cells)) }
 {
     // The law on which the last clause stands.
-    reads_as_asked();
+    reads_as_said();
     chunk_cells(alloc, bytes, spec)
 }

@@ -232,3 +232,72 @@ fn faults_of_values(rt: HostRuntime) {
         )
     );
 }
+
+/// Whether a page, with another byte at a place, is refused so.
+fn refuses_changed(alloc: Global, page: &[u8], at: usize, byte: u8, want: PageFault) -> bool {
+    let Ok(mut changed) = page.to_vec(alloc) else {
+        return false;
+    };
+    if let Some(place) = changed.get_mut(at) {
+        *place = byte;
+    }
+    refuses(alloc, changed.as_slice(), &longs(0, 2), want)
+}
+
+#[test]
+fn faults_of_encodings(rt: HostRuntime) {
+    // Deltas, packed levels, booleans' runs in a column of numbers, a dictionary of indices, and repetition levels.
+    let rows = [
+        (first_form(), 10, 0x0a, 5),
+        (first_form(), 12, 0x08, 4),
+        (first_form(), 10, 0x06, 3),
+        (with_dictionary(), 10, 0x10, 8),
+        (second_form(), 18, 0x02, 3),
+    ];
+    for (page, at, byte, code) in rows {
+        let fault = PageFault::Encoding { code };
+        assert!(rt;
+            refuses_changed(rt.alloc(), page, at, byte, fault),
+            "code {code}"
+        );
+    }
+}
+
+/// A text that is said to have 16,777,217 bytes.
+fn long_text() -> &'static [u8] {
+    &[
+        0x15, 0x00, 0x15, 0x08, 0x15, 0x08, 0x2c, 0x15, 0x02, 0x15, 0x00, 0x15, 0x06, 0x15, 0x06,
+        0x00, 0x00, 1, 0, 0, 1,
+    ]
+}
+
+#[test]
+fn faults_inside_values(rt: HostRuntime) {
+    let index = PageFault::Values(EncFault::BadIndex {
+        at: 0,
+        index: 1,
+        size: 1,
+    });
+    assert!(rt; refuses_changed(rt.alloc(), with_dictionary(), 48, 1, index));
+    let long = PageFault::Values(EncFault::LongCell {
+        at: 0,
+        length: 16_777_217,
+    });
+    assert!(rt; refuses(rt.alloc(), long_text(), &texts(1), long));
+}
+
+#[test]
+fn faults_inside_headers(rt: HostRuntime) {
+    let ty = PageFault::Thrift(ThriftFault::BadType { at: 0, ty: 13 });
+    assert!(rt; refuses(rt.alloc(), &[0x1d], &longs(0, 1), ty));
+    // A size of -1.
+    let size = PageFault::Thrift(ThriftFault::TooWide { at: 3 });
+    assert!(rt;
+        refuses(
+            rt.alloc(),
+            &[0x15, 0x00, 0x25, 0x01, 0x00],
+            &longs(0, 1),
+            size
+        )
+    );
+}
