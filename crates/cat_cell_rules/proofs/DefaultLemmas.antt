@@ -1,5 +1,5 @@
 -- A default is judged by the one value that it is the text of.
-use Rattle.std.proofs.Common.{◌≡◌, ℕ, Bool, true, List, Option, Some, sym, subst, ◌∙◌, Decides}
+use Rattle.std.proofs.Common.{◌≡◌, ℕ, Bool, true, List, Option, Some, sym, subst, Decides}
 use Rattle.lake_types.specs.Texts.{HasText}
 use Rattle.lake_types.specs.declared.value.ColType.{ColType}
 use Rattle.lake_types.specs.declared.value.Value.{Value}

@@ -1,1 +1,3 @@
-mod DefaultLemmas
+pub mod DefaultLemmas
+pub mod MeetLemmas
+pub mod ColumnLemmas

@@ -18,6 +18,7 @@ use Rattle.cat_rules.specs.Lookups.{HasRow}
 use Rattle.cat_rules.specs.Places.{of_column}
 use Rattle.cat_rules.specs.Readable.{type_of}
 use Rattle.cat_rules.specs.Rows.{AtSome, Names}
+use Rattle.cat_cell_rules.specs.Meeting.{rows_meet}
 
 -- a text or a byte string has at most so many bytes
 abbrev pub IsShort : Value → Type 0
@@ -57,6 +58,14 @@ IsColumnWrong t c =
 -- the snapshot sees the column and its table
 abbrev pub SeesColumn : Tables → ColumnRow → ℕ → Type 0
 SeesColumn t c s = (is_visible column_validity s c ≡ true) × HasRow (table_of t c.table_id) (λ r. is_visible table_validity s r ≡ true)
+
+-- the intervals of the column and of its table have a snapshot in common
+abbrev pub meets_row : ColumnRow → Option TableRow → Bool
+meets_row c None = false
+meets_row c (Some r) = rows_meet column_validity table_validity c r
+
+abbrev pub meets_table : Tables → ColumnRow → Bool
+meets_table t c = meets_row c (table_of t c.table_id)
 
 -- A column that a kept snapshot sees with its table has a name of at most 255 bytes, a known type and defaults of it; it has
 -- an initial default if it needs one; and its field id is from 1 to below the table's next one.

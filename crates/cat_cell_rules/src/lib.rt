@@ -3,3 +3,6 @@
 
 mod column_rule;
 mod defaults;
+mod meeting;
+
+pub use column_rule::first_wrong_column;

@@ -1,5 +1,4 @@
-use Rattle.std.proofs.Common.{◌≡◌, Some, rules, sym, ◌∙◌}
-use Rattle.lake_types.specs.Texts.{HasText}
+use Rattle.std.proofs.Common.{◌≡◌, Some, rules}
 use Rattle.cat_rules.specs.Readable.{type_of}
 use Rattle.cat_cell_rules.proofs.DefaultLemmas.{default_decides}
 use Rattle.cat_cell_rules.proofs.defaults.is_default.Goals as goal
