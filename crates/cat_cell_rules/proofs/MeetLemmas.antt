@@ -13,12 +13,12 @@ use Rattle.cat_rules.specs.Rows.{AtSome}
 use Rattle.cat_rules.proofs.SightLemmas.{IsDated, at_kept, clip, clip_kept, clip_sees, from_kept}
 use Rattle.cat_cell_rules.specs.Meeting.{rows_meet}
 
-and_parts : (a b : Bool) → (a && b) ≡ true → (a ≡ true) × (b ≡ true)
+pub and_parts : (a b : Bool) → (a && b) ≡ true → (a ≡ true) × (b ≡ true)
 and_parts true b e = (refl, e)
 and_parts false b e = absurd (true≢false (sym e))
 
 -- before the end, a number up to another one before it
-is_before-down : (m n : ℕ) (e : Option ℕ) → m ≤ n → is_before n e ≡ true → is_before m e ≡ true
+pub is_before-down : (m n : ℕ) (e : Option ℕ) → m ≤ n → is_before n e ≡ true → is_before m e ≡ true
 is_before-down m n None le h = refl
 is_before-down m n (Some k) le h = grind (arith, nat_tests)
 

@@ -4,7 +4,7 @@ ghost use Rattle.cat_cell_rules.specs.Meeting.{rows_meet};
 
 use cat_rules::Dated;
 
-fn is_before(snapshot: u64, end: Option<u64>) -> bool
+pub(crate) fn is_before(snapshot: u64, end: Option<u64>) -> bool
     ensures { result ≡ is_before snapshot end }
 {
     match end {
