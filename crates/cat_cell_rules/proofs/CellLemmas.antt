@@ -1,5 +1,5 @@
 -- Bytes spell one list of cells at most.
-use Rattle.std.proofs.Common.{◌≡◌, ℕ, suc, ◌+◌, ◌^◌, ◌<◌, ◌≤◌, Bool, true, false, List, [], ◌∷◌, length, Option, Some, None, Ok, refl, sym, ap, subst, ◌∙◌, true≢false, Decides, arith}
+use Rattle.std.proofs.Common.{◌≡◌, ℕ, suc, ◌+◌, ◌^◌, ◌<◌, ◌≤◌, Bool, true, false, List, [], ◌∷◌, length, Some, None, Ok, sym, subst, ◌∙◌, true≢false, Decides, arith}
 use Rattle.std.specs.List.{AllByRecursion, list_any}
 use Rattle.std.specs.Prelude.{nat_lt}
 use Rattle.std.proofs.lemmas.Bool.Decides.{nat_tests}
@@ -37,14 +37,13 @@ one_list bytes a b p q =
 
 module _ (t : Tables) (r : InlinedRow) where
   pub misfit_decides : (cells : List (ℕ × Value)) (b : Bool) → Spells r.cells cells → b ≡ list_any (is_misfit t r) cells → Decides b (HasMisfitBy t r)
-  misfit_decides cells b spells is =
-      (
-        λ e. (cells, spells, sym is ∙ e),
-        λ h.
+  misfit_decides cells b spells is = (
+    λ e. (cells, spells, sym is ∙ e),
+    λ h.
         let same : h.0 ≡ cells = one_list r.cells h.0 cells h.1 spells in
         let T : List (ℕ × Value) → Type 0 = λ xs. list_any (is_misfit t r) xs ≡ true in
         is ∙ subst T same h.2,
-      )
+  )
 
   pub no_misfit : ((cells : List (ℕ × Value)) → length cells < 2 ^ 64 → Spells r.cells cells → ⊥) → Decides false (HasMisfitBy t r)
   no_misfit none = (λ e. absurd (true≢false (sym e)), λ h. absurd (none h.0 (few h.0 h.1.1.1 h.1.1.0) h.1))

@@ -1,12 +1,12 @@
 -- Of rows that lie within the kept snapshots the intervals tell which are seen with their table, and with a column.
-use Rattle.std.proofs.Common.{◌≡◌, ◌⊎◌, inl, inr, ⊎_elim, ℕ, ◌<◌, ◌≤◌, ◌&&◌, ◌||◌, Bool, true, false, cond, List, [], ◌∷◌, Option, Some, None, filter, refl, sym, ap, subst, ◌∙◌, true≢false, arith, Decides}
+use Rattle.std.proofs.Common.{◌≡◌, ◌⊎◌, inl, inr, ⊎_elim, ℕ, ◌≤◌, ◌&&◌, ◌||◌, Bool, true, false, cond, List, [], ◌∷◌, Option, Some, None, filter, refl, sym, ◌∙◌, true≢false, arith, Decides}
 use Rattle.std.specs.List.{AllByRecursion, list_any}
 use Rattle.std.specs.Prelude.{max, nat_le}
 use Rattle.std.proofs.lemmas.Bool.{le-leb}
-use Rattle.std.proofs.lemmas.Bool.Decides.{Decides-and, Decides-at, nat_tests}
+use Rattle.std.proofs.lemmas.Bool.Decides.{Decides-and, nat_tests}
 use Rattle.cat_tables.specs.Table.{RisesByKey, has_key}
 use Rattle.cat_tables.specs.Validity.{is_before, is_visible}
-use Rattle.cat_rows.specs.Keys.{snapshot_key, table_key}
+use Rattle.cat_rows.specs.Keys.{snapshot_key}
 use Rattle.cat_rows.specs.Tables.{Tables}
 use Rattle.cat_rows.specs.Validities.{column_validity, inlined_row_validity, table_validity}
 use Rattle.cat_rows.specs.declared.batch.Key.{Key}
@@ -14,20 +14,19 @@ use Rattle.cat_rows.specs.declared.inlined.InlinedRow.{InlinedRow}
 use Rattle.cat_rows.specs.declared.schemas.ColumnRow.{ColumnRow}
 use Rattle.cat_rows.specs.declared.schemas.TableRow.{TableRow}
 use Rattle.lake_types.specs.declared.value.Value.{Value}
-use Rattle.inline_rows.specs.Laws.{Spells}
 use Rattle.cat_rules.specs.First.{FirstBad, Holds}
 use Rattle.cat_rules.specs.History.{IsMissing, IsSnapshotBad}
 use Rattle.cat_rules.specs.Intervals.{IsIntervalBad}
 use Rattle.cat_rules.specs.Lookups.{HasRow, column_of}
 use Rattle.cat_rules.specs.Places.{of_inlined}
 use Rattle.cat_rules.specs.Rows.{AtSome, Names, SomeOf}
-use Rattle.cat_rules.proofs.DatedLemmas.{dated_columns, dated_inlined, dated_tables, found_dated, none_missing}
+use Rattle.cat_rules.proofs.DatedLemmas.{dated_columns, dated_inlined, none_missing}
 use Rattle.cat_rules.proofs.FirstLemmas.{all_like, first_like}
 use Rattle.cat_rules.proofs.SightLemmas.{IsDated, at_kept, clip, clip_kept, clip_sees, from_kept}
-use Rattle.cat_cell_rules.specs.Columns.{table_of}
-use Rattle.cat_cell_rules.specs.Inlined.{HasMisfit, HasMisfitBy, HasUnreadableCells, HasWrongRowId, IsInlinedBad, IsInlinedWrong, IsMisfitIn, SeesInlined, all_meet, all_meet_row, is_misfit, meets_row, meets_table, refuses}
+use Rattle.cat_cell_rules.specs.Meeting.{meets_table, table_of}
+use Rattle.cat_cell_rules.specs.Inlined.{HasMisfit, HasUnreadableCells, HasWrongRowId, IsInlinedBad, IsInlinedWrong, IsMisfitIn, SeesInlined, all_meet, all_meet_row, is_misfit, refuses}
 use Rattle.cat_cell_rules.proofs.ColumnLemmas.{some_like}
-use Rattle.cat_cell_rules.proofs.MeetLemmas.{and_parts, is_before-down, meets_decides}
+use Rattle.cat_cell_rules.proofs.MeetLemmas.{and_parts, found_table, is_before-down, seen_decides}
 
 -- ---- one of a list
 
@@ -45,9 +44,10 @@ any_filtered f p P (x ∷ xs) all = go (f x) refl (any_filtered f p P xs all.1)
   where
     go : (b : Bool) → f x ≡ b → Decides (list_any p (filter f xs)) (SomeOf (λ x. (f x ≡ true) × P x) xs)
         → Decides (list_any p (cond b (x ∷ filter f xs) (filter f xs))) (((f x ≡ true) × P x) ⊎ SomeOf (λ x. (f x ≡ true) × P x) xs)
-    go true e rest =
-        (λ h. ⊎_elim (λ q. inl (e, q)) (λ q. inr (rest.0 q)) ((split (p x) (list_any p (filter f xs)) all.0) h),
-        λ h. ⊎_elim (λ q. left (p x) (list_any p (filter f xs)) (all.0.1 q.1)) (λ q. right (p x) (list_any p (filter f xs)) (rest.1 q)) h)
+    go true e rest = (
+      λ h. ⊎_elim (λ q. inl (e, q)) (λ q. inr (rest.0 q)) ((split (p x) (list_any p (filter f xs)) all.0) h),
+      λ h. ⊎_elim (λ q. left (p x) (list_any p (filter f xs)) (all.0.1 q.1)) (λ q. right (p x) (list_any p (filter f xs)) (rest.1 q)) h,
+    )
       where
         split : {Q : Type 0} (a b : Bool) → Decides a Q → (a || b) ≡ true → Q ⊎ (b ≡ true)
         split true b d h = inl (d.0 refl)
@@ -63,16 +63,6 @@ any_filtered f p P (x ∷ xs) all = go (f x) refl (any_filtered f p P xs all.1)
     go false e rest = (λ h. inr (rest.0 h), λ h. ⊎_elim (λ q. absurd (true≢false (sym q.0 ∙ e))) (λ q. rest.1 q) h)
 
 module _ (t : Tables) (up : RisesByKey snapshot_key t.snapshot) (history : Holds (IsSnapshotBad t)) (intervals : Holds (IsIntervalBad t)) where
-  found_table : (r : InlinedRow) (q : TableRow) → table_of t r.table_id ≡ Some q → IsDated t table_validity q
-  found_table r q e = found_dated t table_key (r.table_id ∷ []) table_validity t.table (dated_tables t intervals) q e
-
-  seen_decides : (r : InlinedRow) → IsDated t inlined_row_validity r → Decides (meets_table t r) (AtSome t (SeesInlined t r))
-  seen_decides r dated = go (table_of t r.table_id) refl
-    where
-      go : (o : Option TableRow) → table_of t r.table_id ≡ o → Decides (meets_row r o) (AtSome t (λ s. (is_visible inlined_row_validity s r ≡ true) × HasRow o (λ q. is_visible table_validity s q ≡ true)))
-      go None e = (λ h. absurd (true≢false (sym h)), λ h. let some = from_kept t (λ s. (is_visible inlined_row_validity s r ≡ true) × ⊥) h in absurd some.2.1)
-      go (Some q) e = meets_decides t up (none_missing t history) inlined_row_validity table_validity r q dated (found_table r q e)
-
   -- ---- three rows together
 
   abbrev SeesAll : InlinedRow → TableRow → ColumnRow → ℕ → Type 0
@@ -118,7 +108,7 @@ module _ (t : Tables) (up : RisesByKey snapshot_key t.snapshot) (history : Holds
       go : (o : Option TableRow) → table_of t r.table_id ≡ o
           → Decides (all_meet_row r c o) (AtSome t (λ s. ((is_visible inlined_row_validity s r ≡ true) × HasRow o (λ q. is_visible table_validity s q ≡ true)) × (is_visible column_validity s c ≡ true)))
       go None e = (λ h. absurd (true≢false (sym h)), λ h. let some = from_kept t (λ s. ((is_visible inlined_row_validity s r ≡ true) × ⊥) × (is_visible column_validity s c ≡ true)) h in absurd some.2.0.1)
-      go (Some q) e = all_decide r q c dr (found_table r q e) dc
+      go (Some q) e = all_decide r q c dr (found_table t up history intervals r.table_id q e) dc
 
   -- ---- misfits
 
@@ -143,9 +133,9 @@ module _ (t : Tables) (up : RisesByKey snapshot_key t.snapshot) (history : Holds
   wrong_to : (r : InlinedRow) → IsDated t inlined_row_validity r → HasUnreadableCells t r ⊎ (HasWrongRowId t r ⊎ HasMisfit t r) → IsInlinedWrong t r
   wrong_to r dr h = ⊎_elim (λ a. inl a) (λ b. inr (⊎_elim (λ x. inl x) (λ m. inr (m.0, m.1, (misfit_is r dr m.0).1 m.2)) b)) h
 
-  pub first_inlined : (o : Option Key) → FirstBad (Names of_inlined (λ r. (meets_table t r ≡ true) × IsInlinedWrong t r) t.inlined_row) o → FirstBad (IsInlinedBad t) o
+  pub first_inlined : (o : Option Key) → FirstBad (Names of_inlined (λ r. (meets_table inlined_row_validity r (table_of t r.table_id) ≡ true) × IsInlinedWrong t r) t.inlined_row) o → FirstBad (IsInlinedBad t) o
   first_inlined o h =
-      first_like (Names of_inlined (λ r. (meets_table t r ≡ true) × IsInlinedWrong t r) t.inlined_row) (IsInlinedBad t)
-      (λ k p. some_like (IsDated t inlined_row_validity) _ _ (λ r d x. (((seen_decides r d).0 x.0.0, wrong_from r d x.0.1), x.1)) t.inlined_row (dated_inlined t intervals) p)
-      (λ k p. some_like (IsDated t inlined_row_validity) _ _ (λ r d x. (((seen_decides r d).1 x.0.0, wrong_to r d x.0.1), x.1)) t.inlined_row (dated_inlined t intervals) p)
+      first_like (Names of_inlined (λ r. (meets_table inlined_row_validity r (table_of t r.table_id) ≡ true) × IsInlinedWrong t r) t.inlined_row) (IsInlinedBad t)
+      (λ k p. some_like (IsDated t inlined_row_validity) _ _ (λ r d x. (((seen_decides t up history intervals inlined_row_validity r r.table_id d).0 x.0.0, wrong_from r d x.0.1), x.1)) t.inlined_row (dated_inlined t intervals) p)
+      (λ k p. some_like (IsDated t inlined_row_validity) _ _ (λ r d x. (((seen_decides t up history intervals inlined_row_validity r r.table_id d).1 x.0.0, wrong_to r d x.0.1), x.1)) t.inlined_row (dated_inlined t intervals) p)
       o h

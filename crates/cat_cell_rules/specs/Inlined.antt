@@ -5,7 +5,7 @@ use Rattle.std.specs.Option.{option_map}
 use Rattle.cat_tables.specs.Table.{has_key}
 use Rattle.cat_tables.specs.Validity.{is_before, is_visible}
 use Rattle.cat_rows.specs.Tables.{Tables}
-use Rattle.cat_rows.specs.Validities.{column_validity, inlined_row_validity, table_validity}
+use Rattle.cat_rows.specs.Validities.{column_validity, inlined_row_validity}
 use Rattle.cat_rows.specs.declared.batch.Key.{Key}
 use Rattle.cat_rows.specs.declared.inlined.InlinedRow.{InlinedRow}
 use Rattle.cat_rows.specs.declared.schemas.ColumnRow.{ColumnRow}
@@ -19,12 +19,10 @@ use Rattle.cat_rules.specs.Lookups.{HasRow, column_of, stats_of_table}
 use Rattle.cat_rules.specs.Places.{of_inlined}
 use Rattle.cat_rules.specs.Readable.{type_of}
 use Rattle.cat_rules.specs.Rows.{AtSome, Names, SomeOf}
-use Rattle.cat_cell_rules.specs.Columns.{table_of}
-use Rattle.cat_cell_rules.specs.Meeting.{rows_meet}
+use Rattle.cat_cell_rules.specs.Meeting.{SeesWith, table_of}
 
--- the snapshot sees the row and its table
 abbrev pub SeesInlined : Tables → InlinedRow → ℕ → Type 0
-SeesInlined t r s = (is_visible inlined_row_validity s r ≡ true) × HasRow (table_of t r.table_id) (λ q. is_visible table_validity s q ≡ true)
+SeesInlined t r = SeesWith inlined_row_validity (table_of t r.table_id) r
 
 -- the next field id of the row's table, where it has statistics
 abbrev pub next_field : Tables → InlinedRow → Option ℕ
@@ -63,13 +61,6 @@ IsInlinedBad t =
     Names of_inlined (λ r. AtSome t (SeesInlined t r) × (HasUnreadableCells t r ⊎ (HasWrongRowId t r ⊎ HasMisfit t r))) t.inlined_row
 
 -- ---- by the intervals alone
-
-abbrev pub meets_row : InlinedRow → Option TableRow → Bool
-meets_row r None = false
-meets_row r (Some q) = rows_meet inlined_row_validity table_validity r q
-
-abbrev pub meets_table : Tables → InlinedRow → Bool
-meets_table t r = meets_row r (table_of t r.table_id)
 
 -- all three intervals hold the last begin
 abbrev pub all_meet : InlinedRow → TableRow → ColumnRow → Bool

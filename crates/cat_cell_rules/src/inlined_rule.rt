@@ -7,25 +7,17 @@ ghost use Rattle.cat_rules.specs.First.{FirstBad, Holds};
 ghost use Rattle.cat_rules.specs.History.{IsSnapshotBad};
 ghost use Rattle.cat_rules.specs.Intervals.{IsIntervalBad};
 ghost use Rattle.cat_rules.specs.Places.{of_inlined};
+ghost use Rattle.cat_rows.specs.Validities.{inlined_row_validity};
+ghost use Rattle.cat_cell_rules.specs.Meeting.{meets_table, table_of};
 ghost use Rattle.cat_cell_rules.specs.Inlined as spec;
 
-use crate::meeting::{is_before, rows_meet};
+use crate::meeting::{is_before, meets_table};
 use cat_rows::{CatRows, ColumnRow, InlinedRow, Key, TableRow};
 use cat_rules::{CheckedRule, first_checked, rows_of_column, type_of};
 use cat_tables::find_row;
 use inline_rows::{CellsFault, cells_ok, decode_cells};
 use lake_types::{NoMemory, Value, fits};
 use std::alloc::{AllocError, Global};
-
-/// Whether a row's table is there, and the intervals of both have a snapshot in common.
-fn meets_table(rows: &CatRows, row: &InlinedRow) -> bool
-    ensures { result ≡ spec.meets_table (tables_of rows.now) row.now }
-{
-    match find_row(rows.table(), &row.table_id) {
-        Some(table) => rows_meet(row, table),
-        None => false,
-    }
-}
 
 /// The next field id of a row's table, where it has statistics.
 fn next_field(rows: &CatRows, row: &InlinedRow) -> Option<u64>
@@ -88,9 +80,7 @@ fn is_misfit(rows: &CatRows, row: &InlinedRow, cell: &(u32, Value)) -> bool
 {
     let table = find_row(rows.table(), &row.table_id);
     let columns = rows_of_column(rows.column(), row.table_id, u64::from(cell.0));
-    columns
-        .iter()
-        .any(|column| all_meet_row(row, column, table) && refuses(&cell.1, column))
+    columns.iter().any(|column| all_meet_row(row, column, table) && refuses(&cell.1, column))
 }
 
 fn are_misfits(rows: &CatRows, row: &InlinedRow, cells: &[(u32, Value)]) -> bool
@@ -123,18 +113,14 @@ struct WrongInlined<'a> {
 }
 
 impl<'a> CheckedRule<InlinedRow> for WrongInlined<'a> {
-    ghost Bad = { λ w r. (spec.meets_table (tables_of w.rows.now) r ≡ true) × spec.IsInlinedWrong (tables_of w.rows.now) r };
+    ghost Bad = { λ w r. (meets_table inlined_row_validity r (table_of (tables_of w.rows.now) r.table_id) ≡ true) × spec.IsInlinedWrong (tables_of w.rows.now) r };
 
     ghost name = { of_inlined };
 
     fn judge(&self, alloc: Global, row: &InlinedRow) -> Result<Option<Key>, NoMemory> {
         let wrong = is_wrong(alloc, self.rows, row)?;
-        if wrong && meets_table(self.rows, row) {
-            Ok(Some(Key::Inlined(
-                row.table_id,
-                row.row_id,
-                row.begin_snapshot,
-            )))
+        if wrong && meets_table(self.rows, row, row.table_id) {
+            Ok(Some(Key::Inlined(row.table_id, row.row_id, row.begin_snapshot)))
         } else {
             Ok(None)
         }

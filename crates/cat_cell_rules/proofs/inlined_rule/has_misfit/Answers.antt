@@ -1,9 +1,7 @@
-use Rattle.std.proofs.Common.{◌≡◌, ◌≢◌, ◌∙◌, ◌<◌, ◌^◌, ℕ, List, length, sym, subst, rules}
+use Rattle.std.proofs.Common.{ℕ, List, subst, rules}
 use Rattle.cat_rows.specs.Batches.{tables_of}
-use Rattle.lake_types.specs.declared.value.Value.{Value}
 use Rattle.inline_rows.specs.Laws.{Spells, SpellsNone}
 use Rattle.cat_cell_rules.proofs.CellLemmas.{misfit_decides, no_misfit}
-use Rattle.cat_cell_rules.specs.Inlined.{is_misfit}
 use Rattle.cat_cell_rules.proofs.inlined_rule.has_misfit.Goals as goal
 
 pub returns-in-Ok : goal.returns-in-Ok
