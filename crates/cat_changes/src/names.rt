@@ -70,11 +70,7 @@ fn named(
     Ok(named)
 }
 
-fn named_kind(
-    alloc: Global,
-    kind: &Kind,
-    names: &BTreeMap<u64, &Words>,
-) -> Result<Kind, BadChanges>
+fn named_kind(alloc: Global, kind: &Kind, names: &BTreeMap<u64, &Words>) -> Result<Kind, BadChanges>
     ensures { spec.NamesKind (λ id. spec.shown (get nat_cmp names.now id)) kind.now result }
 {
     let Kind::DroppedSchema { id, .. } = kind else {
