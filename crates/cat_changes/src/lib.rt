@@ -1,4 +1,5 @@
-//! The changes text of a snapshot, both ways: what kinds of change the snapshot made, as the catalogue keeps them.
+//! The changes text of a snapshot, both ways: what kinds of change the snapshot made, as the catalogue keeps
+//! them.
 #![tactic(auto)]
 
 mod fault;

@@ -25,7 +25,8 @@ pub fn with_names(
     named(alloc, kinds.as_slice(), &names)
 }
 
-/// The names by their ids, of each id the first. So looking up many names takes no time that grows with their square.
+/// The names by their ids, of each id the first. So looking up many names takes no time that grows with their
+/// square.
 fn names_of<'a>(
     alloc: Global,
     schemas: &'a [SchemaName],

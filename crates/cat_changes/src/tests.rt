@@ -4,8 +4,12 @@ use std::alloc::{AllocError, Global};
 use std::test::Fail;
 
 /// Of each kind one or more, with quotes, commas, points and line feeds in the names.
-const EACH_KIND: &str =
-    "created_schema:\"a\"\"b,\nc\",created_schema:\"b\",created_table:\"\".\"\"\"\",created_table:\"main\".\"t\",created_table:\"main\".\"t\"\".\"\"u\",inserted_into_table:2,inserted_into_table:10,deleted_from_table:2,compacted_table:0,dropped_schema:3,dropped_schema:7,dropped_table:18446744073709551615,altered_table:1";
+const EACH_KIND: &str = "created_schema:\"a\"\"b,\nc\",created_schema:\"b\",\
+     created_table:\"\".\"\"\"\",\
+     created_table:\"main\".\"t\",created_table:\"main\".\"t\"\".\"\"u\",\
+     inserted_into_table:2,inserted_into_table:10,\
+     deleted_from_table:2,compacted_table:0,dropped_schema:3,dropped_schema:7,\
+     dropped_table:18446744073709551615,altered_table:1";
 
 fn schema(alloc: Global, id: u64, name: &str) -> Result<SchemaName, AllocError> {
     let name = Words::of(alloc, name)?;
