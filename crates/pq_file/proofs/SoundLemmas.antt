@@ -21,7 +21,7 @@ use Rattle.pq_meta.specs.declared.meta.FileMeta.{FileMeta}
 use Rattle.pq_meta.specs.declared.meta.MetaColumn.{MetaColumn}
 use Rattle.pq_meta.specs.declared.meta.MetaChunk.{MetaChunk}
 use Rattle.pq_meta.specs.declared.meta.MetaGroup.{MetaGroup}
-use Rattle.pq_meta.specs.Consistency.{FitsColumns, HasValues, IsConsistent, IsNamed}
+use Rattle.pq_meta.specs.Consistency.{FitsColumns, HasFieldId, HasValues, IsConsistent, IsNamed}
 use Rattle.pq_meta.specs.Consistency as consistency
 use Rattle.pq_meta.specs.Footers.{footer_of}
 use Rattle.pq_pages.specs.declared.chunk.ChunkSpec.{ChunkSpec}
@@ -221,10 +221,10 @@ record IsGrown (rows : ℕ) (meta : MetaColumn) (column : SheetColumn) : Type 0 
   field : column.field ≡ meta.field
   sound : IsSoundColumn rows column
 
-bare_grown : (metas : List MetaColumn) → All IsNamed metas → AllZip (IsGrown 0) metas (map bare metas)
-bare_grown [] named = tt
-bare_grown (m ∷ metas) named =
-    (record { same = refl; optional = refl; field = refl; sound = record { named = All-head IsNamed m metas named; full = refl; cells = All-nil (IsCellOf m.ty m.optional) } }, bare_grown metas (All-tail IsNamed m metas named))
+bare_grown : (metas : List MetaColumn) → All IsNamed metas → All HasFieldId metas → AllZip (IsGrown 0) metas (map bare metas)
+bare_grown [] named ids = tt
+bare_grown (m ∷ metas) named ids =
+    (record { same = refl; optional = refl; field = refl; sound = record { named = All-head IsNamed m metas named; id = All-head HasFieldId m metas ids; full = refl; cells = All-nil (IsCellOf m.ty m.optional) } }, bare_grown metas (All-tail IsNamed m metas named) (All-tail HasFieldId m metas ids))
 
 longer_grown : (have more total : ℕ) (meta : MetaColumn) (column : SheetColumn) (part : Part) → have + more ≡ total → IsGrown have meta column → IsPart more meta part → IsInRange part
     → IsGrown total meta (longer column part)
@@ -241,6 +241,7 @@ longer_grown have more total meta column part sum grown had range =
       field = grown.field;
       sound = record {
         named = grown.sound.named;
+        id = grown.sound.id;
         full = omega (arith, length-append column.cells part.cells, grown.sound.full, had.full);
         cells = All-append (IsCellOf column.ty column.optional) column.cells part.cells grown.sound.cells cells;
       };
@@ -340,7 +341,7 @@ sheet_sound law bytes fields meta sheet fit h =
     let all : min (sum_by stated_rows meta.groups) (2 ^ 64 - 1) ≡ meta.num_rows = fit.rows in
     let sum : 0 + sum_by stated_rows meta.groups ≡ meta.num_rows = omega arith in
     let grown = groups_grown law bytes fields meta.columns 0 0 0 meta.num_rows meta.groups read.value (map bare (wanted fields meta.columns)) range.value sum fit.groups
-    read.gives range.gives (bare_grown (wanted fields meta.columns) (All-filter (is_wanted fields) IsNamed meta.columns fit.names)) in
+    read.gives range.gives (bare_grown (wanted fields meta.columns) (All-filter (is_wanted fields) IsNamed meta.columns fit.names) (All-filter (is_wanted fields) HasFieldId meta.columns fit.ids)) in
     let made : Sheet = sheet_of fields meta read.value in
     let is : IsSound made = record {
       columns = all_sound meta.num_rows (wanted fields meta.columns) made.columns grown;

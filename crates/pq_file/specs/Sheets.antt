@@ -1,5 +1,5 @@
 -- What a sound sheet is.
-use Rattle.std.specs.Prelude.{◌≡◌, ◌≢◌, ◌≤◌, ℕ, ◌⊎◌, All, AllPairs, Bool, true, false, None, length}
+use Rattle.std.specs.Prelude.{◌≡◌, ◌≢◌, ◌≤◌, ℕ, ◌⊎◌, All, AllPairs, IfSome, Bool, true, false, None, length}
 use Rattle.std.specs.Str.{IsUtf8}
 use Rattle.lake_types.specs.declared.sheet.Sheet.{Sheet}
 use Rattle.lake_types.specs.declared.sheet.SheetColumn.{SheetColumn}
@@ -21,9 +21,10 @@ pub record IsCellOf (t : ColType) (optional : Bool) (cell : Value) : Type 0 wher
   pub given : optional ≡ false → cell ≢ value.Null
   pub good : HasGoodBytes cell
 
--- a name that is a text, and a cell for each row
+-- a name that is a text, a field id that a file can state, and a cell for each row
 pub record IsSoundColumn (rows : ℕ) (column : SheetColumn) : Type 0 where
   pub named : IsUtf8 column.name
+  pub id : IfSome column.field (λ id. id ≤ 2147483647)
   pub full : length column.cells ≡ rows
   pub cells : All (IsCellOf column.ty column.optional) column.cells
 

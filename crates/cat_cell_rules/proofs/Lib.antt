@@ -1,0 +1,3 @@
+pub mod DefaultLemmas
+pub mod MeetLemmas
+pub mod ColumnLemmas

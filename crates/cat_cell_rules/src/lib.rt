@@ -1,0 +1,8 @@
+//! The rules of a sane catalogue about single columns, and about rows that lie in the catalogue itself.
+#![tactic(auto)]
+
+mod column_rule;
+mod defaults;
+mod meeting;
+
+pub use column_rule::first_wrong_column;

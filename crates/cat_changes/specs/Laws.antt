@@ -1,0 +1,17 @@
+-- What holds of changes texts.
+use Rattle.std.specs.Prelude.{◌≡◌, ℕ, List}
+use Rattle.lake_types.specs.declared.kind.Kind.{Kind}
+use Rattle.lake_types.specs.declared.kind.SchemaName.{SchemaName}
+use Rattle.cat_changes.specs.Changes.{Gives, IsWrongAt, Says}
+
+-- given the names, a text is that of one list of kinds
+abbrev pub HasOneList : Type 0
+HasOneList = (schemas : List SchemaName) (text : List ℕ) (a b : List Kind) → Gives schemas text a → Gives schemas text b → a ≡ b
+
+-- a text is wrong at one place
+abbrev pub HasOnePlace : Type 0
+HasOnePlace = (text : List ℕ) (m n : ℕ) → IsWrongAt text m → IsWrongAt text n → m ≡ n
+
+-- a text that is wrong somewhere is no changes text
+abbrev pub SaysOrIsWrong : Type 0
+SaysOrIsWrong = (text : List ℕ) (at : ℕ) (kinds : List Kind) → IsWrongAt text at → Says text kinds → ⊥
