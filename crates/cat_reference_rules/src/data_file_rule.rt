@@ -44,7 +44,8 @@ fn is_below_sum(number: u64, start: u64, count: u64) -> bool
     }
 }
 
-/// Whether the ids of a file's rows, where they are counted from a start, aren't all below the table's next row id.
+/// Whether the ids of a file's rows, where they are counted from a start, aren't all below the table's next
+/// row id.
 fn has_row_id_past(rows: &CatRows, row: &DataFileRow) -> bool
     ensures { result ≡ spec.has_row_id_past (stats_of_table (tables_of rows.now) row.now.table_id)
         row.now.row_id_start row.now.record_count }
@@ -87,8 +88,8 @@ impl RowRule<DataFileRow> for WrongNumbers<'_> {
     }
 }
 
-/// The first bad row of the rule about data files, but for their paths: a data file that a kept snapshot sees has a
-/// table that it sees, and right numbers.
+/// The first bad row of the rule about data files, but for their paths: a data file that a kept snapshot sees
+/// has a table that it sees, and right numbers.
 pub fn first_wrong_data_file(rows: &CatRows) -> Option<Key>
     requires history { Holds (IsSnapshotBad (tables_of rows.now)) }
     requires intervals { Holds (IsIntervalBad (tables_of rows.now)) }

@@ -60,8 +60,8 @@ impl RowRule<DeleteFileRow> for Differing<'_> {
     }
 }
 
-/// The first bad row of the rule about delete files, but for a second one of a data file: a delete file that a kept
-/// snapshot sees has a data file that it sees, of the same table and with as many rows at least.
+/// The first bad row of the rule about delete files, but for a second one of a data file: a delete file that
+/// a kept snapshot sees has a data file that it sees, of the same table and with as many rows at least.
 pub fn first_wrong_delete_file(rows: &CatRows) -> Option<Key>
     requires history { Holds (IsSnapshotBad (tables_of rows.now)) }
     requires intervals { Holds (IsIntervalBad (tables_of rows.now)) }

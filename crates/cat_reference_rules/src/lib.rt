@@ -1,5 +1,5 @@
-//! The parts of a sane catalogue's rules about rows that refer to others: tables to schemas, data files to tables, and
-//! delete files to data files.
+//! The parts of a sane catalogue's rules about rows that refer to others: tables to schemas, data files to
+//! tables, and delete files to data files.
 #![tactic(auto)]
 
 mod data_file_rule;

@@ -15,6 +15,8 @@ mod order;
 mod readable;
 mod rule;
 mod stats_rule;
+#[cfg(test)]
+mod tests;
 
 pub use bad_row::BadRow;
 pub use checked::{CheckedRule, first_checked};
