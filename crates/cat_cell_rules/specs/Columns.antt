@@ -1,13 +1,11 @@
 -- The rule about single columns.
-use Rattle.std.specs.Prelude.{◌≡◌, ◌⊎◌, ◌≤◌, ◌<◌, ℕ, Bool, true, false, List, [], ◌∷◌, Option, Some, None, length}
+use Rattle.std.specs.Prelude.{◌≡◌, ◌⊎◌, ◌≤◌, ◌<◌, ℕ, false, List, [], ◌∷◌, Option, Some, None, length}
 use Rattle.cat_tables.specs.Table.{row_of}
-use Rattle.cat_tables.specs.Validity.{is_visible}
-use Rattle.cat_rows.specs.Keys.{column_key, table_key}
+use Rattle.cat_rows.specs.Keys.{column_key}
 use Rattle.cat_rows.specs.Tables.{Tables}
-use Rattle.cat_rows.specs.Validities.{column_validity, table_validity}
+use Rattle.cat_rows.specs.Validities.{column_validity}
 use Rattle.cat_rows.specs.declared.batch.Key.{Key}
 use Rattle.cat_rows.specs.declared.schemas.ColumnRow.{ColumnRow}
-use Rattle.cat_rows.specs.declared.schemas.TableRow.{TableRow}
 use Rattle.lake_types.specs.Texts.{HasText}
 use Rattle.lake_types.specs.declared.value.ColType.{ColType}
 use Rattle.lake_types.specs.declared.value.Value.{Value}
@@ -18,7 +16,7 @@ use Rattle.cat_rules.specs.Lookups.{HasRow}
 use Rattle.cat_rules.specs.Places.{of_column}
 use Rattle.cat_rules.specs.Readable.{type_of}
 use Rattle.cat_rules.specs.Rows.{AtSome, Names}
-use Rattle.cat_cell_rules.specs.Meeting.{rows_meet}
+use Rattle.cat_cell_rules.specs.Meeting.{SeesWith, table_of}
 
 -- a text or a byte string has at most so many bytes
 abbrev pub IsShort : Value → Type 0
@@ -30,9 +28,6 @@ IsShort v = Unit {0}
 abbrev pub IsDefault : List ℕ → Option (List ℕ) → Type 0
 IsDefault type None = Unit {0}
 IsDefault type (Some text) = (t : ColType) × (type_of type ≡ Some t) × ((value : Value) × HasText t value text × IsShort value)
-
-abbrev pub table_of : Tables → ℕ → Option TableRow
-table_of t id = row_of table_key (id ∷ []) t.table
 
 -- the column has a row that begins at this snapshot
 abbrev pub BeginsAt : Tables → ColumnRow → ℕ → Type 0
@@ -55,17 +50,8 @@ abbrev pub IsColumnWrong : Tables → ColumnRow → Type 0
 IsColumnWrong t c =
     (255 < length c.column_name) ⊎ ((type_of c.column_type ≡ None) ⊎ (HasWrongDefault c ⊎ (LacksInitial t c ⊎ HasWrongId t c)))
 
--- the snapshot sees the column and its table
 abbrev pub SeesColumn : Tables → ColumnRow → ℕ → Type 0
-SeesColumn t c s = (is_visible column_validity s c ≡ true) × HasRow (table_of t c.table_id) (λ r. is_visible table_validity s r ≡ true)
-
--- the intervals of the column and of its table have a snapshot in common
-abbrev pub meets_row : ColumnRow → Option TableRow → Bool
-meets_row c None = false
-meets_row c (Some r) = rows_meet column_validity table_validity c r
-
-abbrev pub meets_table : Tables → ColumnRow → Bool
-meets_table t c = meets_row c (table_of t c.table_id)
+SeesColumn t c = SeesWith column_validity (table_of t c.table_id) c
 
 -- A column that a kept snapshot sees with its table has a name of at most 255 bytes, a known type and defaults of it; it has
 -- an initial default if it needs one; and its field id is from 1 to below the table's next one.

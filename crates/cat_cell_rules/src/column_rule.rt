@@ -6,10 +6,12 @@ ghost use Rattle.cat_rules.specs.First.{FirstBad, Holds};
 ghost use Rattle.cat_rules.specs.History.{IsSnapshotBad};
 ghost use Rattle.cat_rules.specs.Intervals.{IsIntervalBad};
 ghost use Rattle.cat_rules.specs.Places.{of_column};
+ghost use Rattle.cat_rows.specs.Validities.{column_validity};
+ghost use Rattle.cat_cell_rules.specs.Meeting.{meets_table, table_of};
 ghost use Rattle.cat_cell_rules.specs.Columns as spec;
 
 use crate::defaults::is_default;
-use crate::meeting::rows_meet;
+use crate::meeting::meets_table;
 use cat_rows::{CatRows, ColumnRow, Key};
 use cat_rules::{CheckedRule, first_checked, is_field_past, kept_of, type_of};
 use cat_tables::find_row;
@@ -63,16 +65,6 @@ fn is_wrong(alloc: Global, rows: &CatRows, column: &ColumnRow) -> Result<bool, N
     )
 }
 
-/// Whether a column's table is there, and the intervals of both have a snapshot in common.
-fn meets_table(rows: &CatRows, column: &ColumnRow) -> bool
-    ensures { result ≡ spec.meets_table (tables_of rows.now) column.now }
-{
-    match find_row(rows.table(), &column.table_id) {
-        Some(table) => rows_meet(column, table),
-        None => false,
-    }
-}
-
 /// The columns that are wrong by themselves, and that a kept snapshot sees with their table.
 #[derive(Drop)]
 struct WrongColumns<'a> {
@@ -80,13 +72,13 @@ struct WrongColumns<'a> {
 }
 
 impl<'a> CheckedRule<ColumnRow> for WrongColumns<'a> {
-    ghost Bad = { λ w c. (spec.meets_table (tables_of w.rows.now) c ≡ true) × spec.IsColumnWrong (tables_of w.rows.now) c };
+    ghost Bad = { λ w c. (meets_table column_validity c (table_of (tables_of w.rows.now) c.table_id) ≡ true) × spec.IsColumnWrong (tables_of w.rows.now) c };
 
     ghost name = { of_column };
 
     fn judge(&self, alloc: Global, row: &ColumnRow) -> Result<Option<Key>, NoMemory> {
         let wrong = is_wrong(alloc, self.rows, row)?;
-        if wrong && meets_table(self.rows, row) {
+        if wrong && meets_table(self.rows, row, row.table_id) {
             Ok(Some(Key::Column(row.table_id, row.column_id, row.begin_snapshot)))
         } else {
             Ok(None)

@@ -3,6 +3,8 @@
 
 mod column_rule;
 mod defaults;
+mod inlined_rule;
 mod meeting;
 
 pub use column_rule::first_wrong_column;
+pub use inlined_rule::first_wrong_inlined;

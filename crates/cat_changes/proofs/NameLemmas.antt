@@ -25,10 +25,10 @@ named_stops find kinds named i k (NoSchema id) lt is h n =
       before = named;
       behind = drop (suc i) kinds;
       split =
-        map-append unnamed named (kind.DroppedSchema id [] ∷ drop (suc i) kinds)
-        ∙ ap (λ (x : List Kind). x ++ kind.DroppedSchema id [] ∷ map unnamed (drop (suc i) kinds)) h.0
-        ∙ ap (λ (x : Kind). map unnamed (take i kinds) ++ x ∷ map unnamed (drop (suc i) kinds)) (sym n.0)
-        ∙ sym (map-append unnamed (take i kinds) (k ∷ drop (suc i) kinds)) ∙ ap (map unnamed) all;
+          map-append unnamed named (kind.DroppedSchema id [] ∷ drop (suc i) kinds)
+          ∙ ap (λ (x : List Kind). x ++ kind.DroppedSchema id [] ∷ map unnamed (drop (suc i) kinds)) h.0
+          ∙ ap (λ (x : Kind). map unnamed (take i kinds) ++ x ∷ map unnamed (drop (suc i) kinds)) (sym n.0)
+          ∙ sym (map-append unnamed (take i kinds) (k ∷ drop (suc i) kinds)) ∙ ap (map unnamed) all;
       named = h.1;
       lacks = n.1;
     }

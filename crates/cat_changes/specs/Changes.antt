@@ -48,6 +48,9 @@ pub record Gives (schemas : List SchemaName) (text : List ℕ) (kinds : List Kin
   pub says : Says text kinds
   pub named : AreNamed schemas kinds
 
+abbrev pub GivesNothing : List SchemaName → List ℕ → Type 0
+GivesNothing schemas text = (kinds : List Kind) → Gives schemas text kinds → ⊥
+
 -- ---- faults
 
 -- kinds, each with the comma behind it
@@ -59,8 +62,8 @@ abbrev pub tail_text : Option (List ℕ) → List ℕ
 tail_text None = []
 tail_text (Some rest) = 44 ∷ rest
 
--- The offset of the first wrong kind: before it stand kinds in order, each with its comma, and no kind that may follow them
--- begins there and goes on to the next comma or the end. Only the empty text has no kind at all.
+-- The offset of the first wrong kind: before it stand kinds in order, each with its comma, and no kind that may
+-- follow them begins there and goes on to the next comma or the end. Only the empty text has no kind at all.
 pub record IsWrongAt (text : List ℕ) (at : ℕ) : Type 0 where
   pub some : text ≢ []
   pub before : List Kind
@@ -69,7 +72,8 @@ pub record IsWrongAt (text : List ℕ) (at : ℕ) : Type 0 where
   pub ids : AllByRecursion HasId before
   pub spelled : ended before ++ rest ≡ text
   pub place : length (ended before) ≡ at
-  pub wrong : (k : Kind) (tail : Option (List ℕ)) → HasId k → AreInOrder (before ++ k ∷ []) → kind_text k ++ tail_text tail ≡ rest → ⊥
+  pub wrong : (k : Kind) (tail : Option (List ℕ)) → HasId k → AreInOrder (before ++ k ∷ [])
+      → kind_text k ++ tail_text tail ≡ rest → ⊥
 
 -- the id of the first dropped schema in the text for which the list has no name
 pub record LacksName (schemas : List SchemaName) (text : List ℕ) (id : ℕ) : Type 0 where

@@ -6,7 +6,8 @@ use Rattle.cat_changes.specs.Changes.{Gives, IsWrongAt, Says}
 
 -- given the names, a text is that of one list of kinds
 abbrev pub HasOneList : Type 0
-HasOneList = (schemas : List SchemaName) (text : List ℕ) (a b : List Kind) → Gives schemas text a → Gives schemas text b → a ≡ b
+HasOneList =
+    (schemas : List SchemaName) (text : List ℕ) (a b : List Kind) → Gives schemas text a → Gives schemas text b → a ≡ b
 
 -- a text is wrong at one place
 abbrev pub HasOnePlace : Type 0

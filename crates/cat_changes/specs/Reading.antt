@@ -56,8 +56,10 @@ unnamed k = k
 
 -- one of these kinds stands at the front of the text, up to a comma or the end
 abbrev pub IsKindAmong : (Kind → Bool) → List ℕ → Option (Kind × Option (Bor (List ℕ))) → Type 0
-IsKindAmong among text None = (k : Kind) (tail : Option (List ℕ)) → among k ≡ true → HasId k → kind_text k ++ tail_text tail ≡ text → ⊥
-IsKindAmong among text (Some x) = HasId x.0 × (unnamed x.0 ≡ x.0) × (kind_text x.0 ++ tail_text (tail_of x.1) ≡ text)
+IsKindAmong among text None =
+    (k : Kind) (tail : Option (List ℕ)) → among k ≡ true → HasId k → kind_text k ++ tail_text tail ≡ text → ⊥
+IsKindAmong among text (Some x) =
+    HasId x.0 × (unnamed x.0 ≡ x.0) × (kind_text x.0 ++ tail_text (tail_of x.1) ≡ text)
 
 abbrev pub is_created_schema : Kind → Bool
 is_created_schema (kind.CreatedSchema name) = true

@@ -7,8 +7,8 @@ use thiserror::Error;
 /// Why a text gives no kinds of change.
 #[derive(Clone, Copy, Debug, PartialEq, Eq, Error)]
 pub enum BadChanges {
-    /// The text is no changes text. `at` is the offset of the first byte of the first kind that is wrong: what stands
-    /// there up to the next comma is no kind that may follow those before it.
+    /// The text is no changes text. `at` is the offset of the first byte of the first kind that is wrong: what
+    /// stands there up to the next comma is no kind that may follow those before it.
     #[error("no changes text: the kind at {at} is wrong")]
     Text { at: u64 },
     /// The text drops a schema for which there is no name.

@@ -2,8 +2,8 @@
 
 ghost use Rattle.cat_changes.specs.Laws.{HasOneList, HasOnePlace, SaysOrIsWrong};
 
-/// Given the names of dropped schemas, a text is that of one list of kinds. So `read_changes` gives back the kinds whose text
-/// `changes_text` gave.
+/// Given the names of dropped schemas, a text is that of one list of kinds. So `read_changes` gives back the kinds
+/// whose text `changes_text` gave.
 pub fn each_text_has_one_list()
     ensures { HasOneList }
 {}

@@ -1,4 +1,5 @@
-//! The changes text of a snapshot, both ways: what kinds of change the snapshot made, as the catalogue keeps them.
+//! The changes text of a snapshot, both ways: what kinds of change the snapshot made, as the catalogue keeps
+//! them.
 #![tactic(auto)]
 
 mod fault;
@@ -12,3 +13,6 @@ mod writing;
 pub use fault::BadChanges;
 pub use reading::read_changes;
 pub use writing::changes_text;
+
+#[cfg(test)]
+mod tests;

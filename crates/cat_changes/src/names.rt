@@ -25,7 +25,8 @@ pub fn with_names(
     named(alloc, kinds.as_slice(), &names)
 }
 
-/// The names by their ids, of each id the first. So looking up many names takes no time that grows with their square.
+/// The names by their ids, of each id the first. So looking up many names takes no time that grows with their
+/// square.
 fn names_of<'a>(
     alloc: Global,
     schemas: &'a [SchemaName],
@@ -70,11 +71,7 @@ fn named(
     Ok(named)
 }
 
-fn named_kind(
-    alloc: Global,
-    kind: &Kind,
-    names: &BTreeMap<u64, &Words>,
-) -> Result<Kind, BadChanges>
+fn named_kind(alloc: Global, kind: &Kind, names: &BTreeMap<u64, &Words>) -> Result<Kind, BadChanges>
     ensures { spec.NamesKind (λ id. spec.shown (get nat_cmp names.now id)) kind.now result }
 {
     let Kind::DroppedSchema { id, .. } = kind else {

@@ -9,7 +9,8 @@ use std::alloc::{AllocError, Global};
 /// The text before and behind the first such sign.
 pub fn cut(text: &str, sign: char) -> Option<(&str, &str)>
     requires { sign < 128 }
-    ensures some { IfSome result (λ x. (text.now ≡ x.0.now ++ sign ∷ x.1.now) × (spec.lacks sign x.0.now ≡ true)) }
+    ensures some { IfSome result (λ x.
+        (text.now ≡ x.0.now ++ sign ∷ x.1.now) × (spec.lacks sign x.0.now ≡ true)) }
     ensures none { result ≡ None → spec.lacks sign text.now ≡ true }
 {
     text.split_once(sign)

@@ -1,7 +1,7 @@
 ghost use Rattle.std.specs.Prelude.{◌≡◌, ◌≢◌, ◌++◌, ◌∷◌, ◌<◌, ◌^◌, ◌==◌, ℕ, List, Option, None, true, decimal, IfOk, IfErr, IfSome, codes};
 ghost use Rattle.lake_types.specs.declared.kind.Kind.{Kind};
 ghost use Rattle.cat_changes.specs.declared.fault.BadChanges.TheVariants.{Memory};
-ghost use Rattle.cat_changes.specs.Changes.{Gives, HasCause, HasId, name_of, tail_text};
+ghost use Rattle.cat_changes.specs.Changes.{Gives, GivesNothing, HasCause, HasId, name_of, tail_text};
 ghost use Rattle.cat_changes.specs.Reading as spec;
 ghost use Rattle.std.specs.List.{find};
 ghost use Rattle.std.specs.Option.{option_copied};
@@ -14,8 +14,8 @@ use itoa::Buffer;
 use lake_types::{Kind, KindList, Listed, SchemaNames, Words};
 use std::alloc::{AllocError, Global};
 
-/// The kinds that a text says, with the names of the dropped schemas from a list: the inverse of `changes_text`. The whole text
-/// is read before the first name is looked up.
+/// The kinds that a text says, with the names of the dropped schemas from a list: the inverse of `changes_text`.
+/// The whole text is read before the first name is looked up.
 pub fn read_changes(
     alloc: Global,
     text: &str,
@@ -23,7 +23,7 @@ pub fn read_changes(
 ) -> Result<KindList, BadChanges>
     ensures ok { IfOk result (λ kinds. Gives schemas.now text.now kinds) }
     ensures cause { IfErr result (λ fault. HasCause schemas.now text.now fault) }
-    ensures none { IfErr result (λ fault. fault ≢ Memory → (kinds : List Kind) → Gives schemas.now text.now kinds → ⊥) }
+    ensures none { IfErr result (λ fault. fault ≢ Memory → GivesNothing schemas.now text.now) }
 {
     let kinds = kinds_of(alloc, text)?;
     with_names(alloc, kinds, schemas.as_slice())
@@ -85,7 +85,8 @@ fn created_schema<'a>(
     alloc: Global,
     text: &'a str,
 ) -> Result<Option<(Kind, Option<&'a str>)>, AllocError>
-    ensures { IfOk result (λ found. spec.IsKindAmong spec.is_created_schema (codes "created_schema:" ++ text.now) found) }
+    ensures { IfOk result (λ found.
+        spec.IsKindAmong spec.is_created_schema (codes "created_schema:" ++ text.now) found) }
 {
     let Some((name, rest)) = quoted_at(alloc, text)? else {
         return Ok(None);
@@ -100,7 +101,8 @@ fn created_table<'a>(
     alloc: Global,
     text: &'a str,
 ) -> Result<Option<(Kind, Option<&'a str>)>, AllocError>
-    ensures { IfOk result (λ found. spec.IsKindAmong spec.is_created_table (codes "created_table:" ++ text.now) found) }
+    ensures { IfOk result (λ found.
+        spec.IsKindAmong spec.is_created_table (codes "created_table:" ++ text.now) found) }
 {
     let Some((schema, rest)) = quoted_at(alloc, text)? else {
         return Ok(None);
@@ -147,7 +149,8 @@ fn id_at(text: &str) -> Option<(u64, Option<&str>)>
     }
 }
 
-/// The id with this text. Other spellings of a number parse too, so the text is compared with the one that is printed.
+/// The id with this text. Other spellings of a number parse too, so the text is compared with the one that is
+/// printed.
 fn id_of(digits: &str) -> Option<u64>
     ensures some { IfSome result (λ id. decimal id ≡ digits.now) }
     ensures none { result ≡ None → (id : ℕ) → id < 2 ^ 64 → decimal id ≢ digits.now }

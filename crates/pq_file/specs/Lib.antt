@@ -6,5 +6,5 @@ pub mod Joining
 pub mod Sheets
 pub mod Cuts
 pub mod Raw
-pub mod Writable
 pub mod Canonical
+pub mod Writable

@@ -9,7 +9,9 @@ use Rattle.cat_rules.specs.First.{FirstBad}
 use Rattle.cat_rules.specs.Places.{is_sooner, of_column}
 use Rattle.cat_rules.specs.Rows.{Names}
 use Rattle.cat_rules.proofs.FirstLemmas.{ascends_like}
-use Rattle.cat_cell_rules.specs.Columns.{IsColumnWrong, meets_table}
+use Rattle.cat_rows.specs.Validities.{column_validity}
+use Rattle.cat_cell_rules.specs.Columns.{IsColumnWrong}
+use Rattle.cat_cell_rules.specs.Meeting.{meets_table, table_of}
 use Rattle.cat_cell_rules.proofs.ColumnLemmas.{first_column}
 use Rattle.cat_cell_rules.proofs.column_rule.first_wrong_column.Goals as goal
 
@@ -21,5 +23,5 @@ pub returns : goal.returns
 returns c =
     let t = tables_of c.args.rows.now in
     let up = subst (RisesByKey snapshot_key) c.snapshot-snapshots.ensures.rows c.snapshot-snapshots.ensures.rises in
-    let First : List ColumnRow → Type 0 = λ rows. IfOk c.first_checked.result (FirstBad (Names of_column (λ q. (meets_table t q ≡ true) × IsColumnWrong t q) rows)) in
+    let First : List ColumnRow → Type 0 = λ rows. IfOk c.first_checked.result (FirstBad (Names of_column (λ q. (meets_table column_validity q (table_of t q.table_id) ≡ true) × IsColumnWrong t q) rows)) in
     IfOk-weaker c.first_checked.result _ _ (first_column t up c.requires.history c.requires.intervals) (subst First c.column.ensures.rows c.first_checked.ensures)

@@ -9,4 +9,4 @@ pub returns-in_err-kind : goal.returns-in_err-kind
 returns-in_err-kind c =
     let fault : c.from_residual.result ≡ Err c.in_err-kind.field-0.0 = search rules in
     rw fault (named_stops (λ id. shown (get nat_cmp c.args.names.now id)) c.args.kinds.now c.loop-kind.named c.loop-kind.kind-index c.kind-item.result c.in_err-kind.field-0.0
-        c.loop-kind-test.true c.kind-item.is c.loop-kind.invariant c.in_err-kind.ensures)
+    c.loop-kind-test.true c.kind-item.is c.loop-kind.invariant c.in_err-kind.ensures)

@@ -16,4 +16,4 @@ returns-then-not-drops_schema c =
 pub returns : goal.returns
 returns c =
     all_named_as (λ id. shown (get nat_cmp c.in_ok-names.names id)) (name_of c.args.schemas.now) c.args.kinds c.named.result c.in_ok-names.ensures
-        (subst (λ (x : List Kind). NamesAll (λ id. shown (get nat_cmp c.in_ok-names.names id)) x c.named.result) c.as_slice-2.ensures c.named.ensures)
+    (subst (λ (x : List Kind). NamesAll (λ id. shown (get nat_cmp c.in_ok-names.names id)) x c.named.result) c.as_slice-2.ensures c.named.ensures)

@@ -18,14 +18,14 @@ returns-in_err-kinds-clause-none c =
 pub returns-clause-ok : goal.returns-clause-ok
 returns-clause-ok c =
     answers_ok c.args.schemas.now c.args.text.now c.in_ok-kinds.kinds c.with_names.result c.in_ok-kinds.ensures
-        (subst (λ (x : List SchemaName). NamesAll (name_of x) c.in_ok-kinds.kinds c.with_names.result) c.as_slice.ensures c.with_names.ensures)
+    (subst (λ (x : List SchemaName). NamesAll (name_of x) c.in_ok-kinds.kinds c.with_names.result) c.as_slice.ensures c.with_names.ensures)
 
 pub returns-clause-cause : goal.returns-clause-cause
 returns-clause-cause c =
     answers_cause c.args.schemas.now c.args.text.now c.in_ok-kinds.kinds c.with_names.result c.in_ok-kinds.ensures
-        (subst (λ (x : List SchemaName). NamesAll (name_of x) c.in_ok-kinds.kinds c.with_names.result) c.as_slice.ensures c.with_names.ensures)
+    (subst (λ (x : List SchemaName). NamesAll (name_of x) c.in_ok-kinds.kinds c.with_names.result) c.as_slice.ensures c.with_names.ensures)
 
 pub returns-clause-none : goal.returns-clause-none
 returns-clause-none c =
     answers_none c.args.schemas.now c.args.text.now c.in_ok-kinds.kinds c.with_names.result c.in_ok-kinds.ensures
-        (subst (λ (x : List SchemaName). NamesAll (name_of x) c.in_ok-kinds.kinds c.with_names.result) c.as_slice.ensures c.with_names.ensures)
+    (subst (λ (x : List SchemaName). NamesAll (name_of x) c.in_ok-kinds.kinds c.with_names.result) c.as_slice.ensures c.with_names.ensures)

@@ -9,5 +9,5 @@ use Rattle.cat_changes.proofs.writing.changes_text.Given as goal
 abbrev pub invariant-loop-kind : goal.invariant-loop-kind
 invariant-loop-kind l = record {
   text : string_bytes l.text ++ flat_map (λ k. 44 ∷ kind_text k) (drop l.kind-index l.others) ≡ changes_text l.kinds;
-  ids : AllByRecursion HasId (drop l.kind-index l.others) → AllByRecursion HasId l.kinds
+  ids : AllByRecursion HasId (drop l.kind-index l.others) → AllByRecursion HasId l.kinds;
 }

@@ -1,0 +1,4 @@
+pub mod ColumnLemmas
+pub mod CrowdedLemmas
+pub mod EarlierLemmas
+pub mod InlinedLemmas

@@ -1,0 +1,4 @@
+pub mod Columns
+pub mod Crowded
+pub mod Earlier
+pub mod Inlined

@@ -1,0 +1,51 @@
+ghost use Rattle.std.specs.Prelude.{◌≡◌, true, IfOk};
+ghost use Rattle.cat_tables.specs.Table.{IsAscending};
+ghost use Rattle.cat_rows.specs.declared.batch.Key.{Key};
+ghost use Rattle.cat_rules.specs.First.{FirstBad};
+ghost use Rattle.cat_rules.specs.Places.{is_sooner};
+ghost use Rattle.cat_rules.specs.Rows.{Names};
+ghost use Rattle.cat_spans.specs.Spans.{Extent};
+ghost use Rattle.cat_name_rules.specs.Crowded.{IsCrowded, name_at};
+
+use cat_rows::Key;
+use cat_spans::{Span, first_past};
+use lake_types::NoMemory;
+use std::alloc::Global;
+
+/// Rows of which only so many of a group may lie over one number.
+pub(crate) trait Grouped<R> {
+    /// The group of a row, and the numbers that it covers.
+    ghost extent: { Self → R → Extent };
+
+    /// The key that a row names.
+    ghost name: { R → Key };
+
+    fn span<'a>(&self, row: &'a R) -> Span<'a>
+        ensures { result ≡ extent self.now row.now };
+
+    fn key(&self, row: &R) -> Key
+        ensures { result ≡ name row.now };
+}
+
+/// The key that the row at a place names.
+fn key_at<R, T: Grouped<R>>(rule: &T, rows: &[R], place: Option<usize>) -> Option<Key>
+    ensures { result ≡ name_at T.name rows.now place }
+{
+    let row = rows.get(place?)?;
+    Some(rule.key(row))
+}
+
+/// The first of the keys that rows name which are one too many. Rows stand in the order of these keys.
+pub(crate) fn first_crowded<R, T: Grouped<R>>(
+    alloc: Global,
+    rule: &T,
+    limit: usize,
+    rows: &[R],
+) -> Result<Option<Key>, NoMemory>
+    requires { IsAscending (λ a b. is_sooner (T.name a) (T.name b) ≡ true) rows.now }
+    ensures { IfOk result (FirstBad (Names T.name (IsCrowded T.name (T.extent rule.now) limit rows.now) rows.now)) }
+{
+    let spans: Vec<Span<'_>> = rows.iter().map(|row| rule.span(row)).collect(alloc)?;
+    let place = first_past(alloc, limit, &spans)?;
+    Ok(key_at(rule, rows, place))
+}
