@@ -1,5 +1,5 @@
 -- Where the rules on snapshots and intervals hold, all rows lie within the kept snapshots, and so does what is found among them.
-use Rattle.std.proofs.Common.{◌≡◌, inl, inr, Bool, true, false, cond, List, [], ◌∷◌, Option, Some, refl, subst, ℕ}
+use Rattle.std.proofs.Common.{◌≡◌, inl, inr, Bool, true, false, cond, List, [], ◌∷◌, Some, refl, subst, ℕ}
 use Rattle.std.specs.List.{AllByRecursion}
 use Rattle.cat_tables.specs.Table.{has_key, row_of}
 use Rattle.cat_tables.specs.Validity.{Validity}

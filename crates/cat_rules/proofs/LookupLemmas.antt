@@ -1,11 +1,13 @@
 -- Rows with one value stand together where the rows rise by it, and the last of them is the last row up to the value.
-use Rattle.std.proofs.Common.{◌≡◌, ◌≢◌, ℕ, zero, suc, ◌+◌, ◌-◌, ◌<◌, ◌≤◌, Bool, true, false, not, cond, List, [], ◌∷◌, Option, Some, None, Ordering, Less, Equal, Greater, is_eq, is_gt, length, get_or, refl, sym, ap, subst, ◌∙◌, true≢false, arith, filter}
+use Rattle.std.proofs.Common.{◌≡◌, ◌≢◌, ℕ, zero, suc, ◌+◌, ◌-◌, ◌<◌, ◌≤◌, Bool, true, false, not, cond, List, [], ◌∷◌, Ordering, Less, Equal, Greater, is_lt, is_eq, is_gt, length, get_or, take, drop, refl, sym, ap, subst, ◌∙◌, true≢false, arith, filter}
 use Rattle.std.specs.List.{AllByRecursion, prefix_len}
+use Rattle.std.specs.Prelude.{slice_get}
 use Rattle.std.specs.List.Sorted.{IsPartitionedBy}
 use Rattle.std.specs.Ordering.{nat_cmp, ordering_reverse, ordering_then}
 use Rattle.std.proofs.lemmas.Cmp.{nat_list_cmp_total}
 use Rattle.cat_tables.specs.Table.{IsAscending, IsBelow, RisesByKey, has_key, key_cmp}
 use Rattle.cat_tables.proofs.KeyLemmas.{key_eq}
+use Rattle.cat_tables.proofs.PlaceLemmas.{less_is}
 use Rattle.cat_rows.specs.Keys.{column_key}
 use Rattle.cat_rows.specs.declared.schemas.ColumnRow.{ColumnRow}
 use Rattle.cat_rules.specs.Lookups.{column_of, last}
@@ -48,13 +50,6 @@ module _ {R : Type 0} (value : R → List ℕ) (k : List ℕ) where
   abbrev is : R → Bool
   is r = has_key value k r
 
-  -- the last row up to the value, if it has the value
-  abbrev pub found : List R → ℕ → Option R
-  found rows zero = None
-  found [] (suc n) = None
-  found (r ∷ rs) (suc zero) = cond (is r) (Some r) None
-  found (r ∷ rs) (suc (suc n)) = found rs (suc n)
-
   above : (r : R) (rs : List R) → AllByRecursion (λ q. key_cmp (value r) (value q) ≢ Greater) rs → is_upto r ≡ false → filter is (r ∷ rs) ≡ []
   above r rs up high = ap (λ b. cond b (r ∷ filter is rs) (filter is rs)) (not_here (key_cmp (value r) k) refl) ∙ rest rs up
     where
@@ -72,58 +67,6 @@ module _ {R : Type 0} (value : R → List ℕ) (k : List ℕ) where
       rest : (qs : List R) → AllByRecursion (λ q. key_cmp (value r) (value q) ≢ Greater) qs → filter is qs ≡ []
       rest [] h = refl
       rest (q ∷ qs) h = ap (λ b. cond b (q ∷ filter is qs) (filter is qs)) (ap is_eq (upward (value r) (value q) k h.0 past)) ∙ rest qs h.1
-
-  alone : (r : R) (rs : List R) → last (filter is rs) ≡ None → last (filter is (r ∷ rs)) ≡ cond (is r) (Some r) None
-  alone r rs none = go (is r) (filter is rs) none
-    where
-      go : (b : Bool) (qs : List R) → last qs ≡ None → last (cond b (r ∷ qs) qs) ≡ cond b (Some r) None
-      go true [] e = refl
-      go false [] e = refl
-      go b (q ∷ qs) e = absurd (some q qs e)
-        where
-          some : (q : R) (qs : List R) → last (q ∷ qs) ≡ None → ⊥
-          some q [] e = absurd (cc e)
-          some q (p ∷ qs) e = some p qs e
-
-  behind : (r q : R) (rs : List R) → (key_cmp (value r) (value q) ≢ Greater) → is_upto q ≡ true → last (filter is (r ∷ q ∷ rs)) ≡ last (filter is (q ∷ rs))
-  behind r q rs le low = go (is r) refl
-    where
-      upto : (b : Bool) → not b ≡ true → b ≡ false
-      upto true e = absurd (true≢false (sym e))
-      upto false e = refl
-
-      go : (b : Bool) → is r ≡ b → last (cond b (r ∷ filter is (q ∷ rs)) (filter is (q ∷ rs))) ≡ last (filter is (q ∷ rs))
-      go true e =
-          let also : is q ≡ true = between (value r) (value q) k le e (upto (is_gt (key_cmp (value q) k)) low) in
-          let whole : filter is (q ∷ rs) ≡ q ∷ filter is rs = ap (λ b. cond b (q ∷ filter is rs) (filter is rs)) also in
-          rw whole refl
-      go false e = refl
-
-  pub found_is : (rows : List R) → Rises rows → last (filter is rows) ≡ found rows (prefix_len is_upto rows)
-  found_is [] up = refl
-  found_is (r ∷ rs) up = go (is_upto r) refl (found_is rs up.1)
-    where
-      go : (b : Bool) → is_upto r ≡ b → last (filter is rs) ≡ found rs (prefix_len is_upto rs) → last (filter is (r ∷ rs)) ≡ found (r ∷ rs) (cond b (1 + prefix_len is_upto rs) 0)
-      go false e rest = ap last (above r rs up.0 e)
-      go true e rest = more rs up.0 rest (prefix_len is_upto rs) refl
-        where
-          more : (qs : List R) → AllByRecursion (λ q. key_cmp (value r) (value q) ≢ Greater) qs → last (filter is qs) ≡ found qs (prefix_len is_upto qs)
-              → (m : ℕ) → prefix_len is_upto qs ≡ m → last (filter is (r ∷ qs)) ≡ found (r ∷ qs) (1 + m)
-          more qs above rest zero e = alone r qs (rest ∙ ap (found qs) e)
-          more [] above rest (suc m) e = absurd (omega arith)
-          more (q ∷ qs) above rest (suc m) e =
-              let two : 1 + suc m ≡ suc (suc m) = omega arith in
-              let low : is_upto q ≡ true = first (is_upto q) refl in
-              rw two (behind r q qs above.0 low ∙ rest ∙ ap (found (q ∷ qs)) e)
-            where
-              first : (b : Bool) → is_upto q ≡ b → b ≡ true
-              first true f = refl
-              first false f = let none : prefix_len is_upto (q ∷ qs) ≡ 0 = ap (λ b. cond b (1 + prefix_len is_upto qs) 0) f in absurd (omega arith)
-
-  pub found_at : (rows : List R) (n : ℕ) (d : R) → n < length rows → found rows (suc n) ≡ cond (is (get_or rows n d)) (Some (get_or rows n d)) None
-  found_at [] n d lt = absurd (omega arith)
-  found_at (r ∷ rs) zero d lt = refl
-  found_at (r ∷ rs) (suc n) d lt = found_at rs n d (omega arith)
 
   -- those up to the value stand in front of the others
   pub parted : (rows : List R) → Rises rows → IsPartitionedBy is_upto rows
@@ -157,13 +100,89 @@ columns_rise = ascends_like (IsBelow column_key) (λ a b. key_cmp (column_of a) 
     fronts Equal Equal z e f = absurd (cc f)
     fronts Equal Greater z e f = absurd (cc e)
 
-module _ {R : Type 0} (value : R → List ℕ) (k : List ℕ) (rows : List R) (up : Rises value k rows) (n : ℕ) (count : n ≡ prefix_len (is_upto value k) rows) where
-  pub last_none : n ≡ 0 → None ≡ last (filter (has_key value k) rows)
-  last_none e = sym (found_is value k rows up ∙ ap (found value k rows) (sym count ∙ e))
+-- ---- the rows of a value, as a part of all rows
 
-  pub last_at : (r : R) → (n ≡ 0 → ⊥) → n ≤ length rows → r ≡ get_or rows (n - 1) r → cond (has_key value k r) (Some r) None ≡ last (filter (has_key value k) rows)
-  last_at r some within e =
-      let one : n ≡ suc (n - 1) = omega arith in
-      let here : found value k rows (suc (n - 1)) ≡ cond (has_key value k (get_or rows (n - 1) r)) (Some (get_or rows (n - 1) r)) None = found_at value k rows (n - 1) r (omega arith) in
-      let whole : last (filter (has_key value k) rows) ≡ found value k rows (suc (n - 1)) = found_is value k rows up ∙ ap (found value k rows) (sym count ∙ one) in
-      sym (whole ∙ here ∙ ap (λ q. cond (has_key value k q) (Some q) None) (sym e))
+module _ {R : Type 0} (value : R → List ℕ) (k : List ℕ) where
+  abbrev pub is_below : R → Bool
+  is_below r = is_lt (key_cmp (value r) k)
+
+  pub parted_below : (rows : List R) → Rises value k rows → IsPartitionedBy is_below rows
+  parted_below [] up i j d le lt h = absurd (omega arith)
+  parted_below (r ∷ rs) up zero zero d le lt h = h
+  parted_below (r ∷ rs) up (suc i) zero d le lt h = absurd (omega arith)
+  parted_below (r ∷ rs) up (suc i) (suc j) d le lt h = parted_below rs up.1 i j d (omega arith) (omega arith) h
+  parted_below (r ∷ rs) up zero (suc j) d le lt h = under rs j up.0 (omega arith) h
+    where
+      lower : (q : R) → key_cmp (value r) (value q) ≢ Greater → is_lt (key_cmp (value q) k) ≡ true → is_lt (key_cmp (value r) k) ≡ true
+      lower q le low = go (key_cmp (value r) (value q)) refl
+        where
+          go : (o : Ordering) → key_cmp (value r) (value q) ≡ o → is_lt (key_cmp (value r) k) ≡ true
+          go Less e = ap is_lt (nat_list_cmp_total.trans (value r) (value q) k e (less_is _ low))
+          go Equal e = subst (λ x. is_lt (key_cmp x k) ≡ true) (sym (key_eq (value r) (value q) (ap is_eq e))) low
+          go Greater e = absurd (le e)
+
+      under : (qs : List R) (j : ℕ) → AllByRecursion (λ q. key_cmp (value r) (value q) ≢ Greater) qs → j < length qs → is_below (get_or qs j d) ≡ true → is_below r ≡ true
+      under [] j all lt low = absurd (omega arith)
+      under (q ∷ qs) zero all lt low = lower q all.0 low
+      under (q ∷ qs) (suc j) all lt low = under qs j all.1 (omega arith) low
+
+  abbrev pub below : List R → ℕ
+  below = prefix_len is_below
+
+  abbrev pub upto : List R → ℕ
+  upto = prefix_len (is_upto value k)
+
+  -- none is below where the first isn't
+  none_below : (r : R) (rs : List R) → AllByRecursion (λ q. key_cmp (value r) (value q) ≢ Greater) rs → is value k r ≡ true → below rs ≡ 0
+  none_below r [] up same = refl
+  none_below r (q ∷ qs) up same = ap (λ b. cond b (1 + below qs) 0) (go (key_cmp (value q) k) refl)
+    where
+      go : (o : Ordering) → key_cmp (value q) k ≡ o → is_lt o ≡ false
+      go Less e =
+          let back : key_cmp (value r) (value q) ≡ Greater =
+          nat_list_cmp_total.antisymm (value r) (value q) ∙ ap ordering_reverse (subst (λ x. key_cmp (value q) x ≡ Less) (sym (key_eq (value r) k same)) e) in
+          absurd (up.0 back)
+      go Equal e = refl
+      go Greater e = refl
+
+  -- The rows of the value are those from the first that isn't below it to the last up to it.
+  pub part_is : (rows : List R) → Rises value k rows → filter (has_key value k) rows ≡ take (upto rows - below rows) (drop (below rows) rows)
+  part_is [] up = refl
+  part_is (r ∷ rs) up = go (part_is rs up.1) (key_cmp (value r) k) refl
+    where
+      behind : (n : ℕ) → drop (1 + n) (r ∷ rs) ≡ drop n rs
+      behind n = let e : 1 + n ≡ suc n = omega arith in rw e refl
+
+      some : (n : ℕ) → take ((1 + n) - 0) (r ∷ rs) ≡ r ∷ take n rs
+      some n = let e : (1 + n) - 0 ≡ suc n = omega arith in rw e refl
+
+      go : filter (has_key value k) rs ≡ take (upto rs - below rs) (drop (below rs) rs) → (o : Ordering) → key_cmp (value r) k ≡ o
+          → cond (is_eq o) (r ∷ filter (has_key value k) rs) (filter (has_key value k) rs)
+          ≡ take (cond (not (is_gt o)) (1 + upto rs) 0 - cond (is_lt o) (1 + below rs) 0) (drop (cond (is_lt o) (1 + below rs) 0) (r ∷ rs))
+      go rest Less e =
+          let same : (1 + upto rs) - (1 + below rs) ≡ upto rs - below rs = omega arith in
+          rest ∙ sym (ap (take ((1 + upto rs) - (1 + below rs))) (behind (below rs)) ∙ ap (λ n. take n (drop (below rs) rs)) same)
+      go rest Equal e =
+          let first : below rs ≡ 0 = none_below r rs up.0 (ap is_eq e) in
+          let all : upto rs - below rs ≡ upto rs = omega arith in
+          ap (λ xs. r ∷ xs) (rest ∙ ap (λ n. take n (drop (below rs) rs)) all ∙ ap (λ n. take (upto rs) (drop n rs)) first) ∙ sym (some (upto rs))
+      go rest Greater e =
+          let none : filter (has_key value k) (r ∷ rs) ≡ [] = above value k r rs up.0 (ap (λ o. not (is_gt o)) e) in
+          ap (λ b. cond b (r ∷ filter (has_key value k) rs) (filter (has_key value k) rs)) (sym (ap is_eq e)) ∙ none
+
+  pub in_order : (rows : List R) → Rises value k rows → below rows ≤ upto rows
+  in_order [] up = omega arith
+  in_order (r ∷ rs) up = go (key_cmp (value r) k) (in_order rs up.1)
+    where
+      go : (o : Ordering) → below rs ≤ upto rs → cond (is_lt o) (1 + below rs) 0 ≤ cond (not (is_gt o)) (1 + upto rs) 0
+      go Less h = omega arith
+      go Equal h = omega arith
+      go Greater h = omega arith
+
+pub last_is : {R : Type 0} (rows : List R) → slice_get rows (length rows - 1) ≡ last rows
+last_is [] = refl
+last_is (r ∷ []) = refl
+last_is (r ∷ q ∷ rs) =
+    let here : suc (suc (length rs)) - 1 ≡ suc (length rs) = omega arith in
+    let behind : suc (length rs) - 1 ≡ length rs = omega arith in
+    ap (slice_get (r ∷ q ∷ rs)) here ∙ sym (ap (slice_get (q ∷ rs)) behind) ∙ last_is (q ∷ rs)

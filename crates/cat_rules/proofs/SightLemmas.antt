@@ -8,7 +8,6 @@ use Rattle.cat_tables.specs.Table.{RisesByKey}
 use Rattle.cat_tables.specs.Validity.{Validity, is_before, is_visible}
 use Rattle.cat_rows.specs.Keys.{snapshot_key}
 use Rattle.cat_rows.specs.Tables.{Tables}
-use Rattle.cat_rows.specs.declared.batch.Key.{Key}
 use Rattle.cat_rows.specs.declared.batch.Key.TheVariants as key
 use Rattle.cat_rows.specs.declared.history.SnapshotRow.{SnapshotRow}
 use Rattle.cat_rules.specs.First.{Holds}

@@ -66,8 +66,9 @@ impl<'a> CheckedRule<FileColumnStatsRow> for WrongStats<'a> {
     }
 }
 
-/// The first bad row of the rule about the statistics of columns: where the file is there, the column's id is below the
-/// next field id of the file's table, bounds are texts of values of the column's type, and NULLs are at most the rows.
+/// The first bad row of the rule about the statistics of columns: where the file is there, the column's id is
+/// below the next field id of the file's table, bounds are texts of values of the column's type, and NULLs
+/// are at most the rows.
 pub fn first_bad_column_stats(alloc: Global, rows: &CatRows) -> Result<Option<Key>, NoMemory>
     ensures { IfOk result (FirstBad (IsColumnStatsBad (tables_of rows.now))) }
 {

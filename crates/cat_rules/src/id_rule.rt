@@ -156,8 +156,8 @@ fn large_counter(newest: &SnapshotRow) -> Option<Key>
     }
 }
 
-/// The first bad row of the rule about ids: both counters of the newest snapshot are past each id of their sort,
-/// in any row, and at most the last value.
+/// The first bad row of the rule about ids: both counters of the newest snapshot are past each id of their
+/// sort, in any row, and at most the last value.
 pub fn first_bad_id(rows: &CatRows) -> Option<Key>
     ensures { FirstBad (IsIdBad (tables_of rows.now)) result }
 {

@@ -75,8 +75,8 @@ fn is_wrong(kept: Kept, last: Option<&ColumnRow>, row: &ColumnRow) -> bool
     }
 }
 
-/// The first row of a column whose interval is wrong. Rows of a column stand together and rise by their begin, so
-/// it is enough to compare each with the one before it, as long as none was wrong.
+/// The first row of a column whose interval is wrong. Rows of a column stand together and rise by their
+/// begin, so it is enough to compare each with the one before it, as long as none was wrong.
 fn first_wrong(kept: Kept, rows: &[ColumnRow]) -> Option<Key>
     requires { RisesByKey column_key rows.now }
     ensures { FirstBad (Names of_column (IsWronglyDated kept rows.now) rows.now) result }
@@ -91,8 +91,8 @@ fn first_wrong(kept: Kept, rows: &[ColumnRow]) -> Option<Key>
     None
 }
 
-/// The first bad row of the rule about intervals: each begin is at most the newest snapshot; an end is past its
-/// begin, past the first kept snapshot and at most the newest; and intervals of one column don't overlap.
+/// The first bad row of the rule about intervals: each begin is at most the newest snapshot; an end is past
+/// its begin, past the first kept snapshot and at most the newest; and intervals of one column don't overlap.
 pub fn first_bad_interval(rows: &CatRows) -> Option<Key>
     ensures { FirstBad (IsIntervalBad (tables_of rows.now)) result }
 {

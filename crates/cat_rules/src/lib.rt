@@ -15,6 +15,8 @@ mod order;
 mod readable;
 mod rule;
 mod stats_rule;
+#[cfg(test)]
+mod tests;
 
 pub use bad_row::BadRow;
 pub use checked::{CheckedRule, first_checked};
@@ -25,7 +27,7 @@ pub use id_rule::first_bad_id;
 pub use interval_rule::first_bad_interval;
 pub use kept::{Kept, kept_of, newest_of};
 pub use layout_rule::first_bad_layout;
-pub use lookup::newest_row;
+pub use lookup::{newest_row, rows_of_column};
 pub use order::sooner;
 pub use readable::{is_unreadable, type_of};
 pub use rule::{RowRule, first_bad};

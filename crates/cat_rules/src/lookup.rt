@@ -1,8 +1,8 @@
-ghost use Rattle.std.specs.Prelude.{◌≡◌, ◌≤◌, [], ◌∷◌, length, not};
+ghost use Rattle.std.specs.Prelude.{◌≡◌, ◌≤◌, ◌-◌, [], ◌∷◌, drop, filter, length, not, take};
 ghost use Rattle.std.specs.List.{prefix_len};
 ghost use Rattle.std.specs.Option.{option_copied};
-ghost use Rattle.std.specs.Ordering.{is_gt};
-ghost use Rattle.cat_tables.specs.Table.{RisesByKey, key_cmp};
+ghost use Rattle.std.specs.Ordering.{is_gt, is_lt};
+ghost use Rattle.cat_tables.specs.Table.{RisesByKey, has_key, key_cmp};
 ghost use Rattle.cat_rows.specs.Keys.{column_key};
 ghost use Rattle.cat_rules.specs.Lookups as spec;
 
@@ -27,19 +27,37 @@ fn rows_upto(rows: &[ColumnRow], table: u64, column: u64) -> usize
     rows.partition_point(|row| !compare_column(row, table, column).is_gt())
 }
 
-/// The row of a column with the greatest begin. A column's rows stand together and rise by their begin.
+/// How many rows are of a column before this one.
+fn rows_below(rows: &[ColumnRow], table: u64, column: u64) -> usize
+    requires { RisesByKey column_key rows.now }
+    ensures count { result ≡ prefix_len (λ r. is_lt (key_cmp (spec.column_of r) (table ∷ column ∷ []))) rows.now }
+    ensures within { result ≤ length rows.now }
+{
+    rows.partition_point(|row| compare_column(row, table, column).is_lt())
+}
+
+fn part(rows: &[ColumnRow], from: usize, upto: usize) -> &[ColumnRow]
+    requires order { from ≤ upto }
+    requires within { upto ≤ length rows.now }
+    ensures { result.now ≡ take (upto - from) (drop from rows.now) }
+{
+    &rows[from..upto]
+}
+
+/// The rows of a column, which rise by their begin.
+pub fn rows_of_column(rows: &[ColumnRow], table: u64, column: u64) -> &[ColumnRow]
+    requires { RisesByKey column_key rows.now }
+    ensures { result.now ≡ filter (has_key spec.column_of (table ∷ column ∷ [])) rows.now }
+{
+    let below = rows_below(rows, table, column);
+    let upto = rows_upto(rows, table, column);
+    part(rows, below, upto)
+}
+
+/// The row of a column with the greatest begin.
 pub fn newest_row(rows: &[ColumnRow], table: u64, column: u64) -> Option<&ColumnRow>
     requires { RisesByKey column_key rows.now }
     ensures { option_copied result ≡ spec.newest_row table column rows.now }
 {
-    let upto = rows_upto(rows, table, column);
-    if upto == 0 {
-        return None;
-    }
-    let row = &rows[upto - 1];
-    if compare_column(row, table, column).is_eq() {
-        Some(row)
-    } else {
-        None
-    }
+    rows_of_column(rows, table, column).last()
 }

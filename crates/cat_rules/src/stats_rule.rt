@@ -53,8 +53,8 @@ impl RowRule<TableStatsRow> for LargeCounter {
     }
 }
 
-/// The first bad row of the rule about statistics of tables: each table has its row, with counters up to their
-/// last values.
+/// The first bad row of the rule about statistics of tables: each table has its row, with counters up to
+/// their last values.
 pub fn first_bad_stats(rows: &CatRows) -> Option<Key>
     ensures { FirstBad (IsStatsBad (tables_of rows.now)) result }
 {

@@ -1,7 +1,15 @@
 pub mod AnswerLemmas
+pub mod BackLemmas
 pub mod CellLemmas
+pub mod CutLemmas
+pub mod FrameLemmas
+pub mod GroupLemmas
+pub mod HeldLemmas
 pub mod JoinLemmas
+pub mod LimitLemmas
+pub mod MetaLemmas
 pub mod PartLemmas
+pub mod PieceLemmas
 pub mod SheetLemmas
 pub mod SoundLemmas
 pub mod TextLemmas

@@ -4,7 +4,7 @@ use Rattle.std.proofs.lemmas.List.{length-append, length-map}
 use Rattle.std.proofs.lemmas.Bool.{cases_lt, lt-ltb}
 use Rattle.std.proofs.lemmas.List.Elements.{All-append, All-cons, All-filter, All-head, All-map, All-nil, All-tail}
 use Rattle.std.proofs.lemmas.List.Sums.{sum_by-cons}
-use Rattle.std.specs.Prelude.{AllPairs, IfOk, filter, if◌then◌else◌, ⊤}
+use Rattle.std.specs.Prelude.{AllPairs, IfOk, IfSome, filter, if◌then◌else◌, ⊤}
 use Rattle.std.specs.List.{AllZip, count_by, sum_by}
 use Rattle.std.specs.Str.{IsUtf8}
 use Rattle.lake_types.specs.declared.sheet.Sheet.{Sheet}
@@ -21,7 +21,7 @@ use Rattle.pq_meta.specs.declared.meta.FileMeta.{FileMeta}
 use Rattle.pq_meta.specs.declared.meta.MetaColumn.{MetaColumn}
 use Rattle.pq_meta.specs.declared.meta.MetaChunk.{MetaChunk}
 use Rattle.pq_meta.specs.declared.meta.MetaGroup.{MetaGroup}
-use Rattle.pq_meta.specs.Consistency.{FitsColumns, HasValues, IsConsistent, IsNamed}
+use Rattle.pq_meta.specs.Consistency.{FitsColumns, HasFieldId, HasValues, IsConsistent, IsNamed}
 use Rattle.pq_meta.specs.Consistency as consistency
 use Rattle.pq_meta.specs.Footers.{footer_of}
 use Rattle.pq_pages.specs.declared.chunk.ChunkSpec.{ChunkSpec}
@@ -37,7 +37,8 @@ use Rattle.pq_file.specs.Answers.{Answers, of_meta, of_page, ◌then◌}
 use Rattle.pq_file.specs.Cells.{bool_of, cells_of, is_text, long_of, number_of, spread, string_of, typed}
 use Rattle.pq_file.specs.Frame.{footer_in}
 use Rattle.pq_file.specs.Reading.{bare, beside, cells_fit, few_rows, file_of, groups_fit, groups_in, is_wanted, longer, most_rows, part_of, parts_fit, parts_in, sheet_in, sheet_of, span_of, spec_of, stated_rows, with_group}
-use Rattle.pq_file.specs.Sheets.{HasGoodBytes, IsCellOf, IsSound, IsSoundColumn, OtherField}
+use Rattle.pq_file.specs.Sheets.{IsSound, IsSoundColumn}
+use Rattle.pq_file.specs.Writable.{HasCellTexts, HasName, HasText, IsCell, IsShort, OtherField}
 
 -- what the laws of the chunks and of the footer say
 abbrev pub ChunksAsSaid : Type 0
@@ -79,37 +80,37 @@ refused false e u is h = cc
 
 -- ---- Cells of a chunk
 
--- no NULL where none may be, and good bytes
+-- no NULL where none may be, few bytes, and UTF-8 where it is a text
 abbrev IsHad : Bool → Value → Type 0
-IsHad optional cell = (optional ≡ false → cell ≢ value.Null) × HasGoodBytes cell
+IsHad optional cell = (optional ≡ false → cell ≢ value.Null) × IsShort cell × HasText cell
 
 abbrev IsValue : Value → Type 0
-IsValue cell = (cell ≢ value.Null) × HasGoodBytes cell
+IsValue cell = (cell ≢ value.Null) × IsShort cell × HasText cell
 
 number_value : (t : ColType) (n : ℤ) → IsValue (number_of t n)
-number_value ty.Bool n = (λ e. cc, tt)
-number_value ty.Int8 n = (λ e. cc, tt)
-number_value ty.Int16 n = (λ e. cc, tt)
-number_value ty.Int32 n = (λ e. cc, tt)
-number_value ty.Int64 n = (λ e. cc, tt)
-number_value ty.Varchar n = (λ e. cc, tt)
-number_value ty.Blob n = (λ e. cc, tt)
-number_value ty.Date n = (λ e. cc, tt)
+number_value ty.Bool n = (λ e. cc, tt, tt)
+number_value ty.Int8 n = (λ e. cc, tt, tt)
+number_value ty.Int16 n = (λ e. cc, tt, tt)
+number_value ty.Int32 n = (λ e. cc, tt, tt)
+number_value ty.Int64 n = (λ e. cc, tt, tt)
+number_value ty.Varchar n = (λ e. cc, tt, tt)
+number_value ty.Blob n = (λ e. cc, tt, tt)
+number_value ty.Date n = (λ e. cc, tt, tt)
 
 string_value : (t : ColType) (x : List ℕ) → (is_text t ≡ true → IsUtf8 x) → length x ≤ most_bytes → IsValue (string_of t x)
-string_value ty.Bool x text short = (λ e. cc, short)
-string_value ty.Int8 x text short = (λ e. cc, short)
-string_value ty.Int16 x text short = (λ e. cc, short)
-string_value ty.Int32 x text short = (λ e. cc, short)
-string_value ty.Int64 x text short = (λ e. cc, short)
-string_value ty.Varchar x text short = (λ e. cc, (text refl, short))
-string_value ty.Blob x text short = (λ e. cc, short)
-string_value ty.Date x text short = (λ e. cc, short)
+string_value ty.Bool x text short = (λ e. cc, short, tt)
+string_value ty.Int8 x text short = (λ e. cc, short, tt)
+string_value ty.Int16 x text short = (λ e. cc, short, tt)
+string_value ty.Int32 x text short = (λ e. cc, short, tt)
+string_value ty.Int64 x text short = (λ e. cc, short, tt)
+string_value ty.Varchar x text short = (λ e. cc, short, text refl)
+string_value ty.Blob x text short = (λ e. cc, short, tt)
+string_value ty.Date x text short = (λ e. cc, short, tt)
 
 typed_values : (t : ColType) (vs : Values) → (is_text t ≡ true → AreTexts vs) → AreShort vs → All IsValue (typed t vs)
-typed_values t (bools xs) texts short = All-map IsValue bool_of xs (λ k d lt. (λ e. cc, tt))
+typed_values t (bools xs) texts short = All-map IsValue bool_of xs (λ k d lt. (λ e. cc, tt, tt))
 typed_values t (i32s xs) texts short = All-map IsValue (number_of t) xs (λ k d lt. number_value t (get_or xs k d))
-typed_values t (i64s xs) texts short = All-map IsValue long_of xs (λ k d lt. (λ e. cc, tt))
+typed_values t (i64s xs) texts short = All-map IsValue long_of xs (λ k d lt. (λ e. cc, tt, tt))
 typed_values t (strings xs) texts short = All-map IsValue (string_of t) xs (λ k d lt. string_value t (get_or xs k d) (λ e. texts e k d lt) (short k d lt))
 
 typed_count : (t : ColType) (vs : Values) → length (typed t vs) ≡ count_of vs
@@ -146,8 +147,8 @@ had_cells : (spec : ChunkSpec) (t : ColType) (cells : Cells) → FitSpec spec ce
 had_cells spec t cells fit text =
     let texts : is_text t ≡ true → AreTexts cells.values = λ e. fit.texts (text ∙ e) in
     let all : All IsValue (typed t cells.values) = typed_values t cells.values texts fit.short in
-    let values : All (IsHad spec.optional) (typed t cells.values) = λ k d lt. (λ e. (all k d lt).0, (all k d lt).1) in
-    let nulls : All (λ flag. flag ≡ false → IsHad spec.optional value.Null) cells.defined = λ k d lt no. (λ e. absurd (let has = fit.required e k d lt in cc), tt) in
+    let values : All (IsHad spec.optional) (typed t cells.values) = λ k d lt. (λ e. (all k d lt).0, (all k d lt).1, (all k d lt).2) in
+    let nulls : All (λ flag. flag ≡ false → IsHad spec.optional value.Null) cells.defined = λ k d lt no. (λ e. absurd (let has = fit.required e k d lt in cc), tt, tt) in
     spread_all (IsHad spec.optional) cells.defined (typed t cells.values) values nulls (typed_count t cells.values ∙ fit.matched)
 
 -- ---- Parts
@@ -215,35 +216,51 @@ parts_in_range row (part ∷ parts) u h =
 
 -- ---- Columns, as far as they were read
 
+record IsSoundCell (t : ColType) (optional : Bool) (cell : Value) : Type 0 where
+  held : IsCell t cell
+  given : optional ≡ false → cell ≢ value.Null
+  text : HasText cell
+
 record IsGrown (rows : ℕ) (meta : MetaColumn) (column : SheetColumn) : Type 0 where
   same : column.ty ≡ meta.ty
   optional : column.optional ≡ meta.optional
   field : column.field ≡ meta.field
-  sound : IsSoundColumn rows column
+  id : IfSome column.field (λ id. id ≤ 2147483647)
+  named : HasName column
+  count : length column.cells ≡ rows
+  cells : All (IsSoundCell column.ty column.optional) column.cells
 
-bare_grown : (metas : List MetaColumn) → All IsNamed metas → AllZip (IsGrown 0) metas (map bare metas)
-bare_grown [] named = tt
-bare_grown (m ∷ metas) named =
-    (record { same = refl; optional = refl; field = refl; sound = record { named = All-head IsNamed m metas named; full = refl; cells = All-nil (IsCellOf m.ty m.optional) } }, bare_grown metas (All-tail IsNamed m metas named))
+bare_grown : (metas : List MetaColumn) → All IsNamed metas → All HasFieldId metas → AllZip (IsGrown 0) metas (map bare metas)
+bare_grown [] named ids = tt
+bare_grown (m ∷ metas) named ids =
+    let first : IsGrown 0 m (bare m) = record {
+      same = refl;
+      optional = refl;
+      field = refl;
+      id = All-head HasFieldId m metas ids;
+      named = All-head IsNamed m metas named;
+      count = refl;
+      cells = All-nil (IsSoundCell m.ty m.optional);
+    } in
+    (first, bare_grown metas (All-tail IsNamed m metas named) (All-tail HasFieldId m metas ids))
 
 longer_grown : (have more total : ℕ) (meta : MetaColumn) (column : SheetColumn) (part : Part) → have + more ≡ total → IsGrown have meta column → IsPart more meta part → IsInRange part
     → IsGrown total meta (longer column part)
 longer_grown have more total meta column part sum grown had range =
     let type : part.ty ≡ column.ty = had.same ∙ sym grown.same in
-    let cells : All (IsCellOf column.ty column.optional) part.cells = λ k d lt. record {
-      fit = subst (λ (t : ColType). fits (get_or part.cells k d) t ≡ true) type (range k d lt);
+    let cells : All (IsSoundCell column.ty column.optional) part.cells = λ k d lt. record {
+      held = record { short = (had.cells k d lt).1; fits = subst (λ (t : ColType). fits (get_or part.cells k d) t ≡ true) type (range k d lt) };
       given = λ no. (had.cells k d lt).0 (sym grown.optional ∙ no);
-      good = (had.cells k d lt).1;
+      text = (had.cells k d lt).2;
     } in
     record {
       same = grown.same;
       optional = grown.optional;
       field = grown.field;
-      sound = record {
-        named = grown.sound.named;
-        full = omega (arith, length-append column.cells part.cells, grown.sound.full, had.full);
-        cells = All-append (IsCellOf column.ty column.optional) column.cells part.cells grown.sound.cells cells;
-      };
+      id = grown.id;
+      named = grown.named;
+      count = omega (arith, length-append column.cells part.cells, grown.count, had.full);
+      cells = All-append (IsSoundCell column.ty column.optional) column.cells part.cells grown.cells cells;
     }
 
 beside_grown : (have more total : ℕ) (metas : List MetaColumn) (columns : List SheetColumn) (parts : List Part) → have + more ≡ total
@@ -282,11 +299,24 @@ groups_grown law bytes fields metas group row have total (g ∷ gs) read columns
 
 -- ---- The sheet
 
-all_sound : (rows : ℕ) (metas : List MetaColumn) (columns : List SheetColumn) → AllZip (IsGrown rows) metas columns → All (IsSoundColumn rows) columns
-all_sound rows [] [] grown = All-nil (IsSoundColumn rows)
-all_sound rows [] (c ∷ cs) grown = absurd grown
-all_sound rows (m ∷ ms) [] grown = absurd grown
-all_sound rows (m ∷ ms) (c ∷ cs) grown = All-cons (IsSoundColumn rows) c cs (grown.0).sound (all_sound rows ms cs grown.1)
+-- what is true of each column that was read
+each_grown : (P : SheetColumn → Type 0) (rows : ℕ) (metas : List MetaColumn) (columns : List SheetColumn) → ((meta : MetaColumn) (column : SheetColumn) → IsGrown rows meta column → P column)
+    → AllZip (IsGrown rows) metas columns → All P columns
+each_grown P rows [] [] each grown = All-nil P
+each_grown P rows [] (c ∷ cs) each grown = absurd grown
+each_grown P rows (m ∷ ms) [] each grown = absurd grown
+each_grown P rows (m ∷ ms) (c ∷ cs) each grown = All-cons P c cs (each m c grown.0) (each_grown P rows ms cs each grown.1)
+
+column_sound : (rows : ℕ) (meta : MetaColumn) (column : SheetColumn) → IsGrown rows meta column → IsSoundColumn rows column
+column_sound rows meta column grown = record {
+  count = grown.count;
+  cells = λ k d lt. (grown.cells k d lt).held;
+  required = λ no k d lt. (grown.cells k d lt).given no;
+  field = grown.id;
+}
+
+column_texts : (rows : ℕ) (meta : MetaColumn) (column : SheetColumn) → IsGrown rows meta column → HasCellTexts column
+column_texts rows meta column grown e k d lt = (grown.cells k d lt).text
 
 pairs_cons : {A : Type 0} (R : A → A → Type 0) (x : A) (xs : List A) → All (R x) xs → AllPairs R xs → AllPairs R (x ∷ xs)
 pairs_cons R x xs first others i zero d lt within = absurd (omega arith)
@@ -340,12 +370,17 @@ sheet_sound law bytes fields meta sheet fit h =
     let all : min (sum_by stated_rows meta.groups) (2 ^ 64 - 1) ≡ meta.num_rows = fit.rows in
     let sum : 0 + sum_by stated_rows meta.groups ≡ meta.num_rows = omega arith in
     let grown = groups_grown law bytes fields meta.columns 0 0 0 meta.num_rows meta.groups read.value (map bare (wanted fields meta.columns)) range.value sum fit.groups
-    read.gives range.gives (bare_grown (wanted fields meta.columns) (All-filter (is_wanted fields) IsNamed meta.columns fit.names)) in
+    read.gives range.gives (bare_grown (wanted fields meta.columns) (All-filter (is_wanted fields) IsNamed meta.columns fit.names) (All-filter (is_wanted fields) HasFieldId meta.columns fit.ids)) in
     let made : Sheet = sheet_of fields meta read.value in
+    let metas = wanted fields meta.columns in
     let is : IsSound made = record {
-      columns = all_sound meta.num_rows (wanted fields meta.columns) made.columns grown;
-      fields = all_apart meta.num_rows (wanted fields meta.columns) made.columns grown (pairs_kept consistency.OtherField (is_wanted fields) meta.columns fit.fields);
-      few = most;
+      few_rows = most;
+      columns = each_grown (IsSoundColumn meta.num_rows) meta.num_rows metas made.columns (column_sound meta.num_rows) grown;
+      fields = all_apart meta.num_rows metas made.columns grown (pairs_kept consistency.OtherField (is_wanted fields) meta.columns fit.fields);
+      texts = record {
+        names = each_grown HasName meta.num_rows metas made.columns (λ m c g. g.named) grown;
+        cells = each_grown HasCellTexts meta.num_rows metas made.columns (column_texts meta.num_rows) grown;
+      };
     } in
     subst IsSound (ok_same made sheet range.later) is
 

@@ -4,3 +4,7 @@ pub mod Cells
 pub mod Reading
 pub mod Joining
 pub mod Sheets
+pub mod Cuts
+pub mod Raw
+pub mod Canonical
+pub mod Writable

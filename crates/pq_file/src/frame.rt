@@ -8,7 +8,7 @@ use crate::fault::FileFault;
 use byteorder::{ByteOrder, LittleEndian};
 
 /// What a file begins with and ends with.
-const MARK: [u8; 4] = *b"PAR1";
+pub const MARK: [u8; 4] = *b"PAR1";
 
 /// The mark twice, and the footer's length.
 const FRAME: usize = 12;

@@ -1,12 +1,14 @@
 -- The parts of a footer that is read fit together.
-use Rattle.std.proofs.Common.{◌≡◌, ◌≢◌, ℕ, ℤ, pos, negsuc, ◌+◌, ◌<◌, ◌⊎◌, inl, inr, suc, List, [], ◌∷◌, ◌++◌, length, Option, Some, None, Result, Ok, Err, Bool, true, false, refl, sym, ap, ◌∙◌, arith, get_or, length-append, eq-eqb, subst}
-use Rattle.std.specs.Prelude.{All, AllPairs, IfOk, nat_lt, ◌==◌, ◌||◌, if◌then◌else◌, ⊤}
+use Rattle.std.proofs.Common.{◌≡◌, ◌≢◌, ℕ, ℤ, pos, negsuc, ◌+◌, ◌<◌, ◌≤◌, ◌<ℤ◌, ◌⊎◌, inl, inr, suc, List, [], ◌∷◌, ◌++◌, length, Option, Some, None, Result, Ok, Err, Bool, true, false, refl, sym, ap, ◌∙◌, arith, get_or, length-append, eq-eqb, subst}
+use Rattle.std.specs.Prelude.{All, AllPairs, IfOk, IfSome, nat_lt, ◌==◌, ◌||◌, if◌then◌else◌, ⊤}
 use Rattle.std.proofs.lemmas.Bool.{cases_lt, eqb-true}
 use Rattle.std.proofs.lemmas.List.{get_or_append_left}
 use Rattle.std.proofs.Math.Seq.{get_or-append_seam}
-use Rattle.std.proofs.lemmas.List.Elements.{All-cons, All-nil, All-push}
+use Rattle.std.proofs.lemmas.List.Elements.{All-cons, All-head, All-nil, All-push, All-tail}
+use Rattle.std.proofs.lemmas.Int.{ints}
 use Rattle.std.proofs.lemmas.Str.{IsUtf8-from_is_utf8}
 use Rattle.std.specs.Str.{IsUtf8, is_utf8}
+use Rattle.thrift_compact.specs.Reading.{Read}
 use Rattle.thrift_structs.specs.Structs.{struct_of}
 use Rattle.pq_meta.specs.declared.drafts.ElementDraft.{ElementDraft}
 use Rattle.pq_meta.specs.declared.drafts.FooterDraft.{FooterDraft}
@@ -24,7 +26,8 @@ use Rattle.pq_meta.specs.Columns.{meaning_of, type_of, known_type, name_of, chil
 use Rattle.pq_meta.specs.Drafts.{footer_part, no_footer}
 use Rattle.pq_meta.specs.Footers.{footer_of, meta_of, read_of}
 use Rattle.pq_meta.specs.Groups.{described_of, chunk_of, group_of, rows_of}
-use Rattle.pq_meta.specs.Consistency.{OtherField, IsNamed, HasValues, FitsColumns, IsConsistent}
+use Rattle.pq_meta.proofs.RangeLemmas.{HasShortId, HasShortIds, footer_ids}
+use Rattle.pq_meta.specs.Consistency.{OtherField, IsNamed, HasFieldId, HasValues, FitsColumns, IsConsistent}
 
 -- ---- steps that gave a value
 
@@ -203,38 +206,58 @@ pairs_more earlier column pairs others i j d lt within =
           rw (get_or_append_left earlier (column ∷ []) d i less) (rw at (rw (get_or-append_seam earlier column [] d) (others i d less)))
     ]
 
+id_or_none : (b : Bool) (id : ℕ) → id ≤ 2147483647 → IfSome (if b then None else Some id) (λ n. n ≤ 2147483647)
+id_or_none true id small = tt
+id_or_none false id small = small
+
+id_kept : (earlier : List MetaColumn) (field : Option ℤ) → ((n : ℤ) → field ≡ Some n → n <ℤ pos 2147483648) → IfSome (field_of earlier field) (λ n. n ≤ 2147483647)
+id_kept earlier None short = tt
+id_kept earlier (Some (negsuc n)) short = tt
+id_kept earlier (Some (pos id)) short =
+    let below : pos id <ℤ pos 2147483648 = short (pos id) refl in
+    id_or_none (has_field earlier id) id (omega (arith, ints))
+
+leaf_id : (earlier : List MetaColumn) (element : ElementDraft) (column : MetaColumn) → HasShortId element → IsLeaf earlier element column → HasFieldId column
+leaf_id earlier element column short leaf =
+    let P : Option ℕ → Type 0 = λ f. IfSome f (λ n. n ≤ 2147483647) in
+    subst P (sym leaf.field) (id_kept earlier element.field short.short)
+
 record AreColumns (columns : List MetaColumn) : Type 0 where
   names : All IsNamed columns
+  ids : All HasFieldId columns
   fields : AllPairs OtherField columns
 
-columns_more : (earlier : List MetaColumn) (element : ElementDraft) (column : MetaColumn) → AreColumns earlier → column_of earlier element ≡ Ok column
+columns_more : (earlier : List MetaColumn) (element : ElementDraft) (column : MetaColumn) → AreColumns earlier → HasShortId element → column_of earlier element ≡ Ok column
     → AreColumns (earlier ++ column ∷ [])
-columns_more earlier element column are h = record {
+columns_more earlier element column are short h = record {
   names = All-push IsNamed earlier column are.names (column_leaf earlier element column h).name;
+  ids = All-push HasFieldId earlier column are.ids (leaf_id earlier element column short (column_leaf earlier element column h));
   fields = pairs_more earlier column are.fields (column_new earlier element column h);
 }
 
-behind_sound : (earlier : List MetaColumn) (elements : List ElementDraft) (columns : List MetaColumn) → AreColumns earlier → columns_behind earlier elements ≡ Ok columns → AreColumns columns
-behind_sound earlier [] columns are h = subst AreColumns (ok_same earlier columns h) are
-behind_sound earlier (element ∷ elements) columns are h =
+behind_sound : (earlier : List MetaColumn) (elements : List ElementDraft) (columns : List MetaColumn) → AreColumns earlier → All HasShortId elements → columns_behind earlier elements ≡ Ok columns
+    → AreColumns columns
+behind_sound earlier [] columns are short h = subst AreColumns (ok_same earlier columns h) are
+behind_sound earlier (element ∷ elements) columns are short h =
     let one = steps (column_of earlier element) (λ column. columns_behind (earlier ++ column ∷ []) elements) columns h in
-    behind_sound (earlier ++ one.value ∷ []) elements columns (columns_more earlier element one.value are one.gives) one.later
+    behind_sound (earlier ++ one.value ∷ []) elements columns
+    (columns_more earlier element one.value are (All-head HasShortId element elements short) one.gives) (All-tail HasShortId element elements short) one.later
 
-columns_sound : (schema : List ElementDraft) (columns : List MetaColumn) → columns_of schema ≡ Ok columns → AreColumns columns
+columns_sound : (schema : List ElementDraft) (columns : List MetaColumn) → All HasShortId schema → columns_of schema ≡ Ok columns → AreColumns columns
 unfolding columns_of
-columns_sound [] columns h = cc
-columns_sound (root ∷ elements) columns h =
+columns_sound [] columns short h = cc
+columns_sound (root ∷ elements) columns short h =
     let name = steps (need (pos 4) (name_of root.name)) _ columns h in
     let made = steps (columns_behind [] elements) _ columns name.later in
     let compared = steps (counted (children_of root) (length elements)) _ columns made.later in
-    let none : AreColumns [] = record { names = All-nil IsNamed; fields = λ i j d lt within. absurd (omega arith) } in
-    subst AreColumns (ok_same made.value columns compared.later) (behind_sound [] elements made.value none made.gives)
+    let none : AreColumns [] = record { names = All-nil IsNamed; ids = All-nil HasFieldId; fields = λ i j d lt within. absurd (omega arith) } in
+    subst AreColumns (ok_same made.value columns compared.later) (behind_sound [] elements made.value none (All-tail HasShortId root elements short) made.gives)
 
 -- ---- the footer
 
-meta_consistent : (draft : FooterDraft) (meta : FileMeta) → meta_of draft ≡ Ok meta → IsConsistent meta
+meta_consistent : (draft : FooterDraft) (meta : FileMeta) → HasShortIds draft → meta_of draft ≡ Ok meta → IsConsistent meta
 unfolding meta_of
-meta_consistent draft meta h =
+meta_consistent draft meta short h =
     let version = steps (need (pos 1) draft.version) _ meta h in
     let schema = steps (need (pos 2) draft.schema) _ meta version.later in
     let rows = steps (need (pos 3) draft.num_rows) _ meta schema.later in
@@ -242,22 +265,28 @@ meta_consistent draft meta h =
     let columns = steps (columns_of schema.value) _ meta groups.later in
     let kept = steps (each (group_of (length columns.value)) groups.value) _ meta columns.later in
     let compared = steps (counted rows.value (rows_of kept.value)) _ meta kept.later in
-    let are = columns_sound schema.value columns.value columns.gives in
+    let are = columns_sound schema.value columns.value (short.short schema.value (needed (pos 2) draft.schema schema.value schema.gives)) columns.gives in
     let is : IsConsistent (record { columns = columns.value; num_rows = rows.value; groups = kept.value }) = record {
       names = are.names;
+      ids = are.ids;
       fields = are.fields;
       groups = each_all (FitsColumns (length columns.value)) (group_of (length columns.value)) groups.value kept.value (group_fits (length columns.value)) kept.gives;
       rows = sym (counted_equal rows.value (rows_of kept.value) compared.value compared.gives);
     } in
     subst IsConsistent (ok_same (record { columns = columns.value; num_rows = rows.value; groups = kept.value }) meta compared.later) is
 
+read_some : {A : Type 0} (read : Read A) (x : A) → read_of read ≡ Ok x → (rest : List ℕ) × (read ≡ Ok (x, rest))
+read_some (Ok y) x h = let same : y.0 ≡ x = ok_same y.0 x h in (y.1, rw (← same) refl)
+read_some (Err e) x h = cc
+
 pub footer_consistent : (bytes : List ℕ) (meta : FileMeta) → footer_of bytes ≡ Ok meta → IsConsistent meta
 unfolding footer_of
 footer_consistent bytes meta h =
     let draft = steps (read_of (struct_of footer_part no_footer (length bytes) bytes)) meta_of meta h in
-    meta_consistent draft.value meta draft.later
+    let read = read_some (struct_of footer_part no_footer (length bytes) bytes) draft.value draft.gives in
+    meta_consistent draft.value meta (footer_ids (length bytes) bytes (draft.value, read.0) read.1) draft.later
 
--- what is answered for a draft is consistent, if it is a footer
-pub answer_consistent : (read : Result FileMeta MetaFault) (draft : FooterDraft) → Answers read (meta_of draft) → IfOk read IsConsistent
-answer_consistent (Ok meta) draft h = meta_consistent draft meta h
-answer_consistent (Err e) draft h = tt
+-- what is answered is consistent, if it is a footer
+pub answer_consistent : (answer read : Result FileMeta MetaFault) → ((meta : FileMeta) → read ≡ Ok meta → IsConsistent meta) → Answers answer read → IfOk answer IsConsistent
+answer_consistent (Ok meta) read law h = law meta h
+answer_consistent (Err e) read law h = tt

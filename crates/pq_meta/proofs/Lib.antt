@@ -7,4 +7,5 @@ pub mod WrittenLemmas
 pub mod BackLemmas
 pub mod RoundTripLemmas
 pub mod KnownLemmas
+pub mod RangeLemmas
 pub mod ConsistencyLemmas

@@ -1,5 +1,5 @@
 -- What holds of every footer that is read.
-use Rattle.std.specs.Prelude.{◌≡◌, ◌≢◌, ℕ, ◌⊎◌, length, All, AllPairs, None}
+use Rattle.std.specs.Prelude.{◌≡◌, ◌≢◌, ◌≤◌, ℕ, ◌⊎◌, length, All, AllPairs, IfSome, None}
 use Rattle.std.specs.Str.{IsUtf8}
 use Rattle.pq_meta.specs.declared.meta.FileMeta.{FileMeta}
 use Rattle.pq_meta.specs.declared.meta.MetaColumn.{MetaColumn}
@@ -15,6 +15,10 @@ OtherField a b = (a.field ≡ None) ⊎ (a.field ≢ b.field)
 abbrev pub IsNamed : MetaColumn → Type 0
 IsNamed column = IsUtf8 column.name
 
+-- a field id that a file can state
+abbrev pub HasFieldId : MetaColumn → Type 0
+HasFieldId column = IfSome column.field (λ id. id ≤ 2147483647)
+
 -- a chunk has as many values as its group has rows
 abbrev pub HasValues : ℕ → MetaChunk → Type 0
 HasValues rows chunk = chunk.num_values ≡ rows
@@ -27,6 +31,7 @@ pub record FitsColumns (columns : ℕ) (group : MetaGroup) : Type 0 where
 -- the parts of a footer fit together
 pub record IsConsistent (meta : FileMeta) : Type 0 where
   pub names : All IsNamed meta.columns
+  pub ids : All HasFieldId meta.columns
   pub fields : AllPairs OtherField meta.columns
   pub groups : All (FitsColumns (length meta.columns)) meta.groups
   pub rows : rows_of meta.groups ≡ meta.num_rows

@@ -11,6 +11,7 @@ use crate::columns::columns_of;
 use crate::drafts::FooterDraft;
 use crate::fault::MetaFault;
 use crate::groups::{groups_of, rows_of};
+use crate::laws::reads_consistent;
 use crate::meta::FileMeta;
 use std::alloc::Global;
 use thrift_compact::Reader;
@@ -63,6 +64,17 @@ fn meta_of(alloc: Global, draft: &FooterDraft) -> Result<FileMeta, MetaFault>
     }
 }
 
+/// The footer, or the first fault.
+#[tactic(auto, using(crate::proofs::EachLemmas::stops_then), unfolding(crate::specs::Footers::footer_of))]
+fn footer_in(alloc: Global, footer: &[u8]) -> Result<FileMeta, MetaFault>
+    ensures { Answers result (spec.footer_of footer.now) }
+{
+    match read_draft(alloc, footer) {
+        Ok(draft) => meta_of(alloc, &draft),
+        Err(fault) => Err(fault),
+    }
+}
+
 /// Reads the footer that some bytes begin with; what stands behind its stop is not looked at.
 ///
 /// It answers a footer exactly where the bytes begin with one, and else the first fault: those of the
@@ -70,16 +82,15 @@ fn meta_of(alloc: Global, draft: &FooterDraft) -> Result<FileMeta, MetaFault>
 /// in order, the number of the root's children, those of the groups with their chunks in order, and
 /// the number of rows. The memory that is taken is bounded by the bytes given, whatever counts they
 /// state.
-///
-/// The parts of a footer fit together: each group has a chunk for each column, of as many values as
-/// the group has rows, and no field id is that of two columns.
-#[tactic(auto, using(crate::proofs::EachLemmas::stops_then), unfolding(crate::specs::Footers::footer_of))]
 pub fn read_meta(alloc: Global, footer: &[u8]) -> Result<FileMeta, MetaFault>
+    // The footer, exactly where the bytes begin with one; else the first fault.
     ensures exact { Answers result (spec.footer_of footer.now) }
+
+    // Its parts fit together: each group has a chunk for each column, of as many values as the group
+    // has rows, and no field id is that of two columns.
     ensures consistent { IfOk result IsConsistent }
 {
-    match read_draft(alloc, footer) {
-        Ok(draft) => meta_of(alloc, &draft),
-        Err(fault) => Err(fault),
-    }
+    // The law on which the last clause stands.
+    reads_consistent();
+    footer_in(alloc, footer)
 }

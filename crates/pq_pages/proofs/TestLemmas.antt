@@ -1,5 +1,5 @@
 -- The cells of the tests can be written.
-use Rattle.std.proofs.Common.{◌≡◌, ◌<◌, ◌^◌, pos, true, false, [], ◌∷◌, length, refl, arith}
+use Rattle.std.proofs.Common.{◌≡◌, pos, true, false, [], ◌∷◌, length, refl, arith}
 use Rattle.pq_encodings.specs.Levels.{runs_of}
 use Rattle.pq_encodings.specs.Values.{i64s}
 use Rattle.pq_pages.specs.Pages.{Cells}

@@ -14,9 +14,16 @@ use Rattle.pq_pages.specs.Pages.{Cells}
 abbrev pub frame : List ℕ → List ℕ
 frame bytes = little_bytes 4 (length bytes) ++ bytes
 
--- the page behind its header: the levels of an OPTIONAL column, behind their length, and the values
+-- the levels of an OPTIONAL column, behind their length; a REQUIRED one has none
+abbrev pub levels_part : Bool → List Bool → List ℕ
+levels_part optional flags = if optional then frame (level_bytes flags) else []
+
+-- the page behind its header: the levels, and the plain bytes of the values
+abbrev pub page_bytes : Bool → List Bool → List ℕ → List ℕ
+page_bytes optional flags values = levels_part optional flags ++ values
+
 abbrev pub body_bytes : Bool → Cells → List ℕ
-body_bytes optional cells = (if optional then frame (level_bytes cells.defined) else []) ++ value_bytes cells.values
+body_bytes optional cells = page_bytes optional cells.defined (value_bytes cells.values)
 
 -- a field of 32 bits behind the field `last`
 abbrev pub int_field : ℤ → ℤ → ℤ → List ℕ
@@ -33,8 +40,12 @@ header_bytes size count =
     int_field (pos 0) (pos 1) (pos 0) ++ int_field (pos 1) (pos 2) (pos size) ++ int_field (pos 2) (pos 3) (pos size)
     ++ field_spelling (pos 3) (pos 5) STRUCT ++ data_header_bytes count ++ 0 ∷ []
 
+-- a page with its header
+abbrev pub whole_page : Bool → List Bool → List ℕ → List ℕ
+whole_page optional flags values = header_bytes (length (page_bytes optional flags values)) (length flags) ++ page_bytes optional flags values
+
 abbrev pub chunk_bytes : Bool → Cells → List ℕ
-chunk_bytes optional cells = header_bytes (length (body_bytes optional cells)) (length cells.defined) ++ body_bytes optional cells
+chunk_bytes optional cells = whole_page optional cells.defined (value_bytes cells.values)
 
 -- Cells that can be written: each cell that is a value has one, those of a REQUIRED column are all values, byte strings are
 -- short enough to be read, and the page's numbers fit their fields.

@@ -1,4 +1,4 @@
-//! Column chunks of Apache Parquet files, both ways: [`read_chunk`] and [`write_chunk`].
+//! Column chunks of Apache Parquet files, both ways: [`read_chunk`], and [`write_chunk`] or [`push_chunk`].
 //!
 //! What is read may come from strangers: any bytes give cells or the first fault in reading order. `specs/Headers.antt`
 //! says what a page's header says, `specs/Pages.antt` which cells the pages of a chunk give, and `specs/Writing.antt`
@@ -23,7 +23,7 @@ pub use chunk::{ChunkSpec, RawCells};
 pub use fault::PageFault;
 pub use laws::{body_size, reads_as_said, reads_back};
 pub use reading::read_chunk;
-pub use writing::write_chunk;
+pub use writing::{push_chunk, write_chunk};
 
 #[cfg(test)]
 mod tests;

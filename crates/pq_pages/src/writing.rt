@@ -4,7 +4,7 @@ ghost use Rattle.std.specs.Prelude.{◌≡◌, ◌<◌, ◌<ℤ◌, ◌^◌, ◌
 ghost use Rattle.pq_encodings.specs.Levels.{level_bytes};
 ghost use Rattle.pq_encodings.specs.Values.{AreShort, value_bytes, values_of};
 ghost use Rattle.pq_pages.specs.Pages.{cells_of};
-ghost use Rattle.pq_pages.specs.Writing.{AreWritable, body_bytes, chunk_bytes, data_header_bytes, frame, header_bytes, int_field};
+ghost use Rattle.pq_pages.specs.Writing.{AreWritable, chunk_bytes, data_header_bytes, frame, header_bytes, int_field, levels_part, page_bytes, whole_page};
 
 use crate::chunk::RawCells;
 use byteorder::{ByteOrder, LittleEndian};
@@ -71,20 +71,44 @@ fn value_bytes(alloc: Global, values: &Plain) -> Result<Vec<u8>, AllocError>
     encode_plain(alloc, values)
 }
 
-/// The page behind its header.
-fn page_body(alloc: Global, cells: &RawCells, optional: bool) -> Result<Vec<u8>, AllocError>
-    requires { AreWritable optional (cells_of cells.now) }
-    ensures { IfOk result (λ v. v.items ≡ body_bytes optional (cells_of cells.now)) }
+/// The levels of an OPTIONAL column, behind their length.
+fn levels_part(alloc: Global, optional: bool, flags: &[bool]) -> Result<Vec<u8>, AllocError>
+    requires { length (levels_part optional flags.now) < 2 ^ 31 }
+    ensures { IfOk result (λ v. v.items ≡ levels_part optional flags.now) }
 {
-    let values = value_bytes(alloc, &cells.plain)?;
-    if !optional {
-        return Ok(values);
+    let mut part = Vec::new(alloc);
+    if optional {
+        let levels = level_bytes(alloc, flags)?;
+        push_framed(&mut part, levels.as_slice())?;
     }
-    let levels = level_bytes(alloc, cells.defined.as_slice())?;
-    let mut body = Vec::new(alloc);
-    push_framed(&mut body, levels.as_slice())?;
-    body.extend_from_slice(values.as_slice())?;
-    Ok(body)
+    Ok(part)
+}
+
+/// Appends a page behind its header.
+fn push_body(out: &mut Vec<u8>, levels: &[u8], values: &[u8]) -> Result<(), AllocError>
+    ensures { OnOk result (out.new.items ≡ out.old.items ++ (levels.now ++ values.now)) }
+{
+    out.extend_from_slice(levels)?;
+    out.extend_from_slice(values)
+}
+
+/// Appends a chunk of cells: which of them are values, and the plain bytes of those that are.
+pub fn push_chunk(
+    alloc: Global,
+    out: &mut Vec<u8>,
+    optional: bool,
+    flags: &[bool],
+    values: &[u8],
+) -> Result<(), AllocError>
+    requires few { length flags.now < 2 ^ 31 }
+    requires small { length (page_bytes optional flags.now values.now) < 2 ^ 31 }
+    ensures spelled { OnOk result (out.new.items ≡ out.old.items ++ whole_page optional flags.now values.now) }
+{
+    let levels = levels_part(alloc, optional, flags)?;
+    let size = levels.len() + values.len();
+    let header = page_header(alloc, size as u32, flags.len() as u32)?;
+    out.extend_from_slice(header.as_slice())?;
+    push_body(out, levels.as_slice(), values)
 }
 
 /// The bytes of a chunk with these cells: one data page, plain and not compressed.
@@ -92,8 +116,9 @@ pub fn write_chunk(alloc: Global, cells: &RawCells, optional: bool) -> Result<Ve
     requires { AreWritable optional (cells_of cells.now) }
     ensures spelled { IfOk result (λ v. v.items ≡ chunk_bytes optional (cells_of cells.now)) }
 {
-    let body = page_body(alloc, cells, optional)?;
-    let mut chunk = page_header(alloc, body.len() as u32, cells.defined.len() as u32)?;
-    chunk.extend_from_slice(body.as_slice())?;
+    let values = value_bytes(alloc, &cells.plain)?;
+    let flags = cells.defined.as_slice();
+    let mut chunk = Vec::new(alloc);
+    push_chunk(alloc, &mut chunk, optional, flags, values.as_slice())?;
     Ok(chunk)
 }

@@ -1,8 +1,12 @@
 pub mod AnswerLemmas
 pub mod ChainLemmas
 pub mod DraftLemmas
+pub mod Gives
 pub mod NamePuts
 pub mod Puts
+pub mod Said
+pub mod SaidTests
 pub mod StmtPuts
 pub mod TestPuts
+pub mod TokenFits
 pub mod ValuePuts

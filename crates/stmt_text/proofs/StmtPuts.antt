@@ -1,5 +1,5 @@
 -- A printed statement spells itself.
-use Rattle.std.proofs.Common.{◌≡◌, ℕ, Bool, true, ◌&&◌, List, [], ◌∷◌, ◌++◌, refl, sym, subst, append-nil, inl, inr, Option, Some, None}
+use Rattle.std.proofs.Common.{◌⊎◌, ◌≡◌, ℕ, Bool, true, ◌&&◌, List, [], ◌∷◌, ◌++◌, refl, sym, subst, append-nil, inl, inr, Option, Some, None}
 use Rattle.std.specs.Prelude.{nat_le}
 use Rattle.std.specs.List.{list_all}
 use Rattle.std.proofs.lemmas.Bool.{and_parts}
@@ -78,7 +78,7 @@ put_rename n to h t =
     (inr (inr (inl ((tt, (tt, (n, (tt, to)))), p.0, refl))), p.1)
 
 -- ALTER COLUMN name SET, and what follows
-put_setting : (n : List ℕ) (ts : List Token) (z : _) → is_name n ≡ true → is_typed (quoted n) ≡ true → Put rules.setting ts z
+put_setting : (n : List ℕ) (ts : List Token) (z : ColType ⊎ Value) → is_name n ≡ true → is_typed (quoted n) ≡ true → Put rules.setting ts z
     → Put rules.change (fixed k.Alter ∷ fixed k.Column ∷ quoted n ∷ fixed k.Set ∷ ts) (rules.set_of n z)
 unfolding rules.change rules.set_column
 put_setting n ts z h t q =

@@ -4,6 +4,7 @@ use Rattle.lake_types.specs.declared.stmt.Stmt.{Stmt}
 use Rattle.stmt_reader.specs.declared.line.LineNo.{LineNo}
 use Rattle.stmt_reader.specs.declared.line.LineNo.TheVariants.{Memory}
 use Rattle.stmt_reader.specs.Lines.{LineAnswers, Says, longest}
+use Rattle.stmt_text.specs.Printable.{IsPrintable}
 
 -- where the line is no longer than a line may be, what is answered of it is this, but for want of memory
 abbrev pub AnswersOnly : List ℕ → ℕ × Stmt → Type 0
@@ -12,3 +13,6 @@ AnswersOnly line said = (answer : Result (ℕ × Stmt) LineNo)
 
 abbrev pub AnswersWhatIsSaid : Type 0
 AnswersWhatIsSaid = (line : List ℕ) (said : ℕ × Stmt) → Says line said → AnswersOnly line said
+
+abbrev pub WhatIsSaidIsPrintable : Type 0
+WhatIsSaidIsPrintable = (line : List ℕ) (session : ℕ) (stmt : Stmt) → Says line (session, stmt) → IsPrintable session stmt

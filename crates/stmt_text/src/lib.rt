@@ -7,9 +7,14 @@ mod lists;
 mod names;
 mod predicate;
 mod printer;
+mod reader;
 mod rows;
 mod statement;
 
-pub use laws::a_line_answers_what_it_says;
+pub use laws::{a_line_answers_what_it_says, what_a_line_says_can_be_printed};
 pub use printer::print;
-pub use stmt_reader::{LineNo, each_line_has_one_answer, each_line_says_one_thing, read_line};
+pub use reader::read_line;
+pub use stmt_reader::{LineNo, each_line_has_one_answer, each_line_says_one_thing};
+
+#[cfg(test)]
+mod tests;

@@ -6,3 +6,6 @@ mod spelling;
 
 pub use laws::{forms_are_cut, spelled_tokens_are_cut_again};
 pub use spelling::spell;
+
+#[cfg(test)]
+mod tests;

@@ -1,5 +1,7 @@
+use Rattle.pq_meta.specs.Footers.{footer_of}
 use Rattle.pq_meta.proofs.ConsistencyLemmas.{answer_consistent}
 use Rattle.pq_meta.proofs.reading.read_meta.Goals as goal
 
-pub returns-in-Ok-clause-consistent : goal.returns-in-Ok-clause-consistent
-returns-in-Ok-clause-consistent c = answer_consistent c.meta_of.result c.in-Ok.draft c.meta_of.ensures
+pub returns-clause-consistent : goal.returns-clause-consistent
+returns-clause-consistent c =
+    answer_consistent c.footer_in.result (footer_of c.args.footer.now) (c.reads_consistent.ensures c.args.footer.now) c.footer_in.ensures

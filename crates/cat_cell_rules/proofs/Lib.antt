@@ -1,0 +1,5 @@
+pub mod DefaultLemmas
+pub mod InlinedLemmas
+pub mod MeetLemmas
+pub mod CellLemmas
+pub mod ColumnLemmas

@@ -1,0 +1,69 @@
+-- Which sheets can be written.
+use Rattle.std.specs.Prelude.{◌≡◌, ◌≢◌, ◌≤◌, ℕ, List, length, All, AllPairs, IfSome, true, false}
+use Rattle.std.specs.List.{sum_by}
+use Rattle.std.specs.Str.{IsUtf8}
+use Rattle.lake_types.specs.declared.sheet.Sheet.{Sheet}
+use Rattle.lake_types.specs.declared.sheet.SheetColumn.{SheetColumn}
+use Rattle.lake_types.specs.declared.value.ColType.{ColType}
+use Rattle.lake_types.specs.declared.value.ColType.TheVariants as ty
+use Rattle.lake_types.specs.declared.value.Value.{Value}
+use Rattle.lake_types.specs.declared.value.Value.TheVariants as value
+use Rattle.lake_types.specs.Fits.{fits}
+use Rattle.lake_types.specs.Weights.{weight}
+use Rattle.pq_file.specs.Sheets.{OtherField}
+
+-- a cell's own bytes, where it has any, are at most 16,777,216
+abbrev pub IsShort : Value → Type 0
+IsShort (value.Text x) = length x ≤ 16777216
+IsShort (value.Bytes x) = length x ≤ 16777216
+IsShort v = Unit {0}
+
+-- a cell that a column may hold
+pub record IsCell (t : ColType) (cell : Value) : Type 0 where
+  pub short : IsShort cell
+  pub fits : fits cell t ≡ true
+
+-- a column that can be written
+pub record IsColumn (column : SheetColumn) : Type 0 where
+  pub cells : All (IsCell column.ty) column.cells
+  pub required : column.optional ≡ false → All (λ cell. cell ≢ value.Null) column.cells
+  pub name : length column.name ≤ 255
+  pub field : IfSome column.field (λ id. id ≤ 2147483647)
+
+-- a column has a cell for each of so many rows
+abbrev pub HasCells : ℕ → SheetColumn → Type 0
+HasCells rows column = length column.cells ≡ rows
+
+-- the weight of a column's cells
+abbrev pub column_weight : SheetColumn → ℕ
+column_weight column = sum_by weight column.cells
+
+-- a sheet that can be written
+pub record IsWritable (sheet : Sheet) : Type 0 where
+  pub few_rows : sheet.rows ≤ 4194304
+  pub few_columns : length sheet.columns ≤ 101
+  pub counts : All (HasCells sheet.rows) sheet.columns
+  pub columns : All IsColumn sheet.columns
+  pub fields : AllPairs OtherField sheet.columns
+  pub light : sum_by column_weight sheet.columns ≤ 1073741824
+
+-- ---- Texts are UTF-8. A contract sees a text as a list of numbers.
+
+abbrev pub HasText : Value → Type 0
+HasText (value.Text x) = IsUtf8 x
+HasText v = Unit {0}
+
+-- the cells of a column of texts
+abbrev pub HoldTexts : ColType → List Value → Type 0
+HoldTexts t cells = t ≡ ty.Varchar → All HasText cells
+
+abbrev pub HasName : SheetColumn → Type 0
+HasName column = IsUtf8 column.name
+
+abbrev pub HasCellTexts : SheetColumn → Type 0
+HasCellTexts column = HoldTexts column.ty column.cells
+
+-- all texts of a sheet
+pub record HasTexts (sheet : Sheet) : Type 0 where
+  pub names : All HasName sheet.columns
+  pub cells : All HasCellTexts sheet.columns

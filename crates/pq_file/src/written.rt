@@ -1,0 +1,135 @@
+//! Files that are written.
+
+use super::*;
+use crate::frame::footer_in;
+use lake_types::{ColType, NoMemory, Sheet, SheetColumn, SheetColumns, Value, ValueList, Words};
+use pq_meta::read_meta;
+use std::alloc::Global;
+use std::test::*;
+
+/// A sheet of one column `a` with the field id 1.
+fn sheet_of(
+    alloc: Global,
+    ty: ColType,
+    optional: bool,
+    cells: ValueList,
+) -> Result<Sheet, NoMemory> {
+    let rows = cells.len() as u64;
+    let mut columns = SheetColumns::new(alloc);
+    columns.push(SheetColumn {
+        field: Some(1),
+        name: Words::of(alloc, "a")?,
+        ty,
+        optional,
+        cells,
+    })?;
+    Ok(Sheet { columns, rows })
+}
+
+/// The numbers from 0 on, in a required column.
+fn numbers(alloc: Global, rows: u32) -> Result<Sheet, NoMemory> {
+    let mut cells = ValueList::new(alloc);
+    for number in 0..rows {
+        cells.push(Value::Int(i64::from(number)))?;
+    }
+    sheet_of(alloc, ColType::Int32, false, cells)
+}
+
+/// Texts of 16,380 bytes, of which 4,096 fill a group.
+fn texts(alloc: Global, rows: u32) -> Result<Sheet, NoMemory> {
+    let mut cells = ValueList::new(alloc);
+    let mut text = String::new(alloc);
+    for _ in 0..1_638 {
+        text.push_str("ten bytes.")?;
+    }
+    for _ in 0..rows {
+        cells.push(Value::Text(Words::of(alloc, &text)?))?;
+    }
+    sheet_of(alloc, ColType::Varchar, true, cells)
+}
+
+/// The file of a sheet that can be written; of any other no bytes.
+fn file_of(alloc: Global, sheet: &Sheet) -> Result<Vec<u8>, NoMemory> {
+    if !is_writable(sheet) {
+        return Ok(Vec::new(alloc));
+    }
+    write_file(alloc, sheet)
+}
+
+/// Whether the groups of a file have these numbers of rows.
+fn has_groups(alloc: Global, file: &[u8], sizes: &[u64]) -> bool {
+    let Ok(footer) = footer_in(file) else {
+        return false;
+    };
+    let Ok(meta) = read_meta(alloc, footer) else {
+        return false;
+    };
+    meta.groups
+        .as_slice()
+        .iter()
+        .map(|group| group.rows)
+        .eq(sizes.iter().copied())
+}
+
+/// Whether the one column of a sheet holds the numbers from 0 on.
+fn counts_up(sheet: &Sheet) -> bool {
+    let [column] = sheet.columns.as_slice() else {
+        return false;
+    };
+    let mut next = 0;
+    for cell in column.cells.as_slice() {
+        match cell {
+            Value::Int(number) if *number == next => next = next.wrapping_add(1),
+            _ => return false,
+        }
+    }
+    sheet.rows == column.cells.len() as u64
+}
+
+#[test]
+fn writes_the_known_file(rt: HostRuntime) -> Result<(), Fail> {
+    let alloc = rt.alloc();
+    let mut cells = ValueList::new(alloc);
+    cells.push(Value::Int(7))?;
+    cells.push(Value::Null)?;
+    let sheet = sheet_of(alloc, ColType::Int64, true, cells)?;
+    assert!(rt; file_of(alloc, &sheet)?.as_slice() == tests::FILE.as_slice());
+    Ok(())
+}
+
+fn makes_groups(alloc: Global, rows: u32, sizes: &[u64]) -> Result<bool, NoMemory> {
+    let file = file_of(alloc, &numbers(alloc, rows)?)?;
+    let read = match read_file(alloc, &file) {
+        Ok(sheet) => sheet.rows == u64::from(rows) && counts_up(&sheet),
+        Err(_) => false,
+    };
+    Ok(read && has_groups(alloc, &file, sizes))
+}
+
+#[test]
+fn a_group_has_8192_rows(rt: HostRuntime) -> Result<(), Fail> {
+    let alloc = rt.alloc();
+    assert!(rt; makes_groups(alloc, 0, &[])?);
+    assert!(rt; makes_groups(alloc, 1, &[1])?);
+    assert!(rt; makes_groups(alloc, 8_192, &[8_192])?);
+    assert!(rt; makes_groups(alloc, 8_193, &[8_192, 1])?);
+    Ok(())
+}
+
+#[test]
+fn texts_fill_a_group(rt: HostRuntime) -> Result<(), Fail> {
+    let alloc = rt.alloc();
+    let file = file_of(alloc, &texts(alloc, 4_097)?)?;
+    assert!(rt; has_groups(alloc, &file, &[4_096, 1]));
+    assert!(rt; read_file(alloc, &file)?.rows == 4_097);
+    Ok(())
+}
+
+#[test]
+fn a_required_column_has_no_null(rt: HostRuntime) -> Result<(), Fail> {
+    let alloc = rt.alloc();
+    let mut cells = ValueList::new(alloc);
+    cells.push(Value::Null)?;
+    assert!(rt; !is_writable(&sheet_of(alloc, ColType::Bool, false, cells)?));
+    Ok(())
+}
