@@ -7,7 +7,7 @@ use Rattle.lake_types.specs.declared.kind.Kind.TheVariants as kind
 use Rattle.lake_types.specs.declared.kind.SchemaName.{SchemaName}
 use Rattle.lake_types.specs.Kinds.{kind_text, changes_text, AreInOrder}
 use Rattle.cat_changes.specs.Changes.{HasId, Says, Gives, IsNamed, AreNamed, name_of, ended, tail_text, IsWrongAt, LacksName}
-use Rattle.cat_changes.specs.Laws.{HasOneList, HasOnePlace, SaysOrIsWrong}
+use Rattle.cat_changes.specs.Laws.{HasOneList, HasOnePlace, LacksOneName, SaysOrIsWrong}
 use Rattle.cat_changes.specs.Reading.{unnamed, AreUnnamed, IsKindAt}
 use Rattle.cat_changes.proofs.KindLemmas.{kind_cut}
 use Rattle.cat_changes.proofs.OrderLemmas.{order_same, ids_same, texts_same, up_to}
@@ -139,6 +139,27 @@ lacking schemas [] id name behind (kind.DroppedSchema j m ∷ kinds) e h none =
     cc
 lacking schemas [] id name behind (k ∷ kinds) e h none = cc
 lacking schemas (b ∷ before) id name behind (k ∷ kinds) e h none = lacking schemas before id name behind kinds (cc) h.1 none
+
+first_lack : (schemas : List SchemaName) (a b : List Kind) (i j : ℕ) (n m : List ℕ) (after others : List Kind) → AreUnnamed (a ++ kind.DroppedSchema i n ∷ after) (b ++ kind.DroppedSchema j m ∷ others)
+    → AreNamed schemas a → AreNamed schemas b → name_of schemas i ≡ None → name_of schemas j ≡ None → i ≡ j
+first_lack schemas [] [] i j n m after others e ha hb li lj = cc
+first_lack schemas [] (kind.DroppedSchema l o ∷ b) i j n m after others e ha hb li lj =
+    let same : i ≡ l = cc in
+    let both : None ≡ Some o = sym li ∙ ap (name_of schemas) same ∙ hb.0 in
+    cc
+first_lack schemas [] (l ∷ b) i j n m after others e ha hb li lj = cc
+first_lack schemas (kind.DroppedSchema k o ∷ a) [] i j n m after others e ha hb li lj =
+    let same : j ≡ k = cc in
+    let both : None ≡ Some o = sym lj ∙ ap (name_of schemas) same ∙ ha.0 in
+    cc
+first_lack schemas (k ∷ a) [] i j n m after others e ha hb li lj = cc
+first_lack schemas (k ∷ a) (l ∷ b) i j n m after others e ha hb li lj = first_lack schemas a b i j n m after others (cc) ha.1 hb.1 li lj
+
+pub lacks_one_name : LacksOneName
+lacks_one_name schemas text i j u v =
+    first_lack schemas u.before v.before i j u.name v.name u.behind v.behind
+    (same_lists (u.before ++ kind.DroppedSchema i u.name ∷ u.behind) (v.before ++ kind.DroppedSchema j v.name ∷ v.behind) u.says.ids v.says.ids (u.says.spelled ∙ sym v.says.spelled))
+    u.named v.named u.lacks v.lacks
 
 pub lacks_gives_none : (schemas : List SchemaName) (text : List ℕ) (id : ℕ) (kinds : List Kind) → LacksName schemas text id → Gives schemas text kinds → ⊥
 lacks_gives_none schemas text id kinds l g =

@@ -1,6 +1,6 @@
-ghost use Rattle.std.specs.Prelude.{◌≡◌, ◌≢◌, ◌++◌, ◌∷◌, ◌<◌, ℕ, List, None, true, false, IfOk, IfSome, OnOk};
+ghost use Rattle.std.specs.Prelude.{◌≡◌, ◌≢◌, ◌++◌, ◌∷◌, ◌<◌, ℕ, List, None, true, IfOk, IfSome, OnOk};
 ghost use Rattle.std.specs.String.{string_bytes};
-ghost use Rattle.lake_types.specs.Texts.{all_doubled, quoted};
+ghost use Rattle.lake_types.specs.Texts.{quoted};
 ghost use Rattle.cat_changes.specs.Reading as spec;
 
 use lake_types::Words;

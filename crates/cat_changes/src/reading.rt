@@ -1,10 +1,7 @@
-ghost use Rattle.std.specs.Prelude.{◌≡◌, ◌≢◌, ◌++◌, ◌∷◌, ◌<◌, ◌^◌, ◌==◌, ℕ, List, Option, None, true, decimal, IfOk, IfErr, IfSome, codes};
-ghost use Rattle.lake_types.specs.declared.kind.Kind.{Kind};
+ghost use Rattle.std.specs.Prelude.{◌≡◌, ◌≢◌, ◌++◌, ◌∷◌, ◌<◌, ◌^◌, ℕ, None, true, decimal, IfOk, IfErr, IfSome, codes};
 ghost use Rattle.cat_changes.specs.declared.fault.BadChanges.TheVariants.{Memory};
-ghost use Rattle.cat_changes.specs.Changes.{Gives, GivesNothing, HasCause, HasId, name_of, tail_text};
+ghost use Rattle.cat_changes.specs.Changes.{Gives, GivesNothing, HasCause};
 ghost use Rattle.cat_changes.specs.Reading as spec;
-ghost use Rattle.std.specs.List.{find};
-ghost use Rattle.std.specs.Option.{option_copied};
 
 use crate::fault::BadChanges;
 use crate::names::with_names;
@@ -14,8 +11,8 @@ use itoa::Buffer;
 use lake_types::{Kind, KindList, Listed, SchemaNames, Words};
 use std::alloc::{AllocError, Global};
 
-/// The kinds that a text says, with the names of the dropped schemas from a list: the inverse of `changes_text`.
-/// The whole text is read before the first name is looked up.
+/// The kinds that a text says, with the names of the dropped schemas from a list: the inverse of
+/// `changes_text`. The whole text is read before the first name is looked up.
 pub fn read_changes(
     alloc: Global,
     text: &str,

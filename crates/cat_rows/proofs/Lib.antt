@@ -1,3 +1,4 @@
 pub mod RoomLemmas
 pub mod FitLemmas
 pub mod EarlierLemmas
+pub mod RiseLemmas

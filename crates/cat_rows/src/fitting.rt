@@ -1,96 +1,116 @@
-ghost use Rattle.std.specs.Prelude.{◌≡◌, ◌↔◌, IsTrue};
+ghost use Rattle.std.specs.Prelude.{◌≡◌, ◌↔◌, true, IsTrue};
+ghost use Rattle.cat_tables.specs.Table.{key_cmp};
 ghost use Rattle.cat_rows.specs.Batches.{tables_of, key_of, Fits};
 ghost use Rattle.cat_rows.specs.Steps as steps;
 
 use crate::batch::{Batch, CatRow, Key};
 use crate::content::CatRows;
+use std::cmp::Ordering;
+
+/// A key where it stands, in a batch's list or in a row.
+#[derive(Clone, Copy)]
+enum KeyRef<'a> {
+    Metadata(&'a str),
+    Snapshot(u64),
+    SnapshotChanges(u64),
+    Schema(u64),
+    Table(u64),
+    Column(u64, u64, u64),
+    DataFile(u64),
+    DeleteFile(u64),
+    FileColumnStats(u64, u64),
+    TableStats(u64),
+    Inlined(u64, u64, u64),
+    ScheduledFile(&'a str),
+}
 
 impl Key {
-    /// Whether this is the same key.
-    fn is_same(&self, other: &Key) -> bool
-        ensures { result ≡ steps.is_same self.now other.now }
+    fn as_key_ref(&self) -> KeyRef<'_>
+        ensures { steps.ref_parts result ≡ steps.parts self.now }
     {
         match self {
-            Key::Metadata(a) => matches!(other, Key::Metadata(b) if a.as_str() == b.as_str()),
-            Key::Snapshot(a) => matches!(other, Key::Snapshot(b) if a == b),
-            Key::SnapshotChanges(a) => matches!(other, Key::SnapshotChanges(b) if a == b),
-            Key::Schema(a) => matches!(other, Key::Schema(b) if a == b),
-            Key::Table(a) => matches!(other, Key::Table(b) if a == b),
-            Key::Column(a, b, c) =>
-                matches!(other, Key::Column(x, y, z) if a == x && b == y && c == z),
-            Key::DataFile(a) => matches!(other, Key::DataFile(b) if a == b),
-            Key::DeleteFile(a) => matches!(other, Key::DeleteFile(b) if a == b),
-            Key::FileColumnStats(a, b) =>
-                matches!(other, Key::FileColumnStats(x, y) if a == x && b == y),
-            Key::TableStats(a) => matches!(other, Key::TableStats(b) if a == b),
-            Key::Inlined(a, b, c) =>
-                matches!(other, Key::Inlined(x, y, z) if a == x && b == y && c == z),
-            Key::ScheduledFile(a) =>
-                matches!(other, Key::ScheduledFile(b) if a.as_str() == b.as_str()),
+            Key::Metadata(text) => KeyRef::Metadata(text.as_str()),
+            Key::Snapshot(id) => KeyRef::Snapshot(*id),
+            Key::SnapshotChanges(id) => KeyRef::SnapshotChanges(*id),
+            Key::Schema(id) => KeyRef::Schema(*id),
+            Key::Table(id) => KeyRef::Table(*id),
+            Key::Column(table, id, begin) => KeyRef::Column(*table, *id, *begin),
+            Key::DataFile(id) => KeyRef::DataFile(*id),
+            Key::DeleteFile(id) => KeyRef::DeleteFile(*id),
+            Key::FileColumnStats(file, column) => KeyRef::FileColumnStats(*file, *column),
+            Key::TableStats(id) => KeyRef::TableStats(*id),
+            Key::Inlined(table, id, begin) => KeyRef::Inlined(*table, *id, *begin),
+            Key::ScheduledFile(path) => KeyRef::ScheduledFile(path.as_str()),
         }
     }
 }
 
 impl CatRow {
-    /// Whether this is the row's key.
-    fn has_key(&self, key: &Key) -> bool
-        ensures { result ≡ steps.is_same key.now (key_of self.now) }
+    fn key_ref(&self) -> KeyRef<'_>
+        ensures { steps.ref_parts result ≡ steps.parts (key_of self.now) }
     {
         match self {
-            CatRow::Metadata(row) =>
-                matches!(key, Key::Metadata(a) if a.as_str() == row.key.as_str()),
-            CatRow::Snapshot(row) => matches!(key, Key::Snapshot(a) if *a == row.snapshot_id),
-            CatRow::SnapshotChanges(row) =>
-                matches!(key, Key::SnapshotChanges(a) if *a == row.snapshot_id),
-            CatRow::Schema(row) => matches!(key, Key::Schema(a) if *a == row.schema_id),
-            CatRow::Table(row) => matches!(key, Key::Table(a) if *a == row.table_id),
-            CatRow::Column(row) => matches!(key, Key::Column(a, b, c)
-                    if *a == row.table_id && *b == row.column_id && *c == row.begin_snapshot),
-            CatRow::DataFile(row) => matches!(key, Key::DataFile(a) if *a == row.data_file_id),
-            CatRow::DeleteFile(row) =>
-                matches!(key, Key::DeleteFile(a) if *a == row.delete_file_id),
-            CatRow::FileColumnStats(row) =>
-                matches!(key, Key::FileColumnStats(a, b) if *a == row.data_file_id && *b == row.column_id),
-            CatRow::TableStats(row) => matches!(key, Key::TableStats(a) if *a == row.table_id),
-            CatRow::Inlined(row) => matches!(key, Key::Inlined(a, b, c)
-                    if *a == row.table_id && *b == row.row_id && *c == row.begin_snapshot),
-            CatRow::ScheduledFile(row) =>
-                matches!(key, Key::ScheduledFile(a) if a.as_str() == row.path.as_str()),
+            CatRow::Metadata(row) => KeyRef::Metadata(row.key.as_str()),
+            CatRow::Snapshot(row) => KeyRef::Snapshot(row.snapshot_id),
+            CatRow::SnapshotChanges(row) => KeyRef::SnapshotChanges(row.snapshot_id),
+            CatRow::Schema(row) => KeyRef::Schema(row.schema_id),
+            CatRow::Table(row) => KeyRef::Table(row.table_id),
+            CatRow::Column(row) => KeyRef::Column(row.table_id, row.column_id, row.begin_snapshot),
+            CatRow::DataFile(row) => KeyRef::DataFile(row.data_file_id),
+            CatRow::DeleteFile(row) => KeyRef::DeleteFile(row.delete_file_id),
+            CatRow::FileColumnStats(row) => KeyRef::FileColumnStats(
+                row.data_file_id,
+                row.column_id,
+            ),
+            CatRow::TableStats(row) => KeyRef::TableStats(row.table_id),
+            CatRow::Inlined(row) => KeyRef::Inlined(row.table_id, row.row_id, row.begin_snapshot),
+            CatRow::ScheduledFile(row) => KeyRef::ScheduledFile(row.path.as_str()),
         }
     }
+}
 
-    /// Whether another row has the same key.
-    fn has_same_key(&self, other: &CatRow) -> bool
-        ensures { result ≡ steps.is_same (key_of self.now) (key_of other.now) }
-    {
-        match self {
-            CatRow::Metadata(a) =>
-                matches!(other, CatRow::Metadata(b) if a.key.as_str() == b.key.as_str()),
-            CatRow::Snapshot(a) =>
-                matches!(other, CatRow::Snapshot(b) if a.snapshot_id == b.snapshot_id),
-            CatRow::SnapshotChanges(a) =>
-                matches!(other, CatRow::SnapshotChanges(b) if a.snapshot_id == b.snapshot_id),
-            CatRow::Schema(a) => matches!(other, CatRow::Schema(b) if a.schema_id == b.schema_id),
-            CatRow::Table(a) => matches!(other, CatRow::Table(b) if a.table_id == b.table_id),
-            CatRow::Column(a) => matches!(other, CatRow::Column(b)
-                    if a.table_id == b.table_id
-                        && a.column_id == b.column_id
-                        && a.begin_snapshot == b.begin_snapshot),
-            CatRow::DataFile(a) =>
-                matches!(other, CatRow::DataFile(b) if a.data_file_id == b.data_file_id),
-            CatRow::DeleteFile(a) =>
-                matches!(other, CatRow::DeleteFile(b) if a.delete_file_id == b.delete_file_id),
-            CatRow::FileColumnStats(a) => matches!(other, CatRow::FileColumnStats(b)
-                    if a.data_file_id == b.data_file_id && a.column_id == b.column_id),
-            CatRow::TableStats(a) =>
-                matches!(other, CatRow::TableStats(b) if a.table_id == b.table_id),
-            CatRow::Inlined(a) => matches!(other, CatRow::Inlined(b)
-                    if a.table_id == b.table_id
-                        && a.row_id == b.row_id
-                        && a.begin_snapshot == b.begin_snapshot),
-            CatRow::ScheduledFile(a) =>
-                matches!(other, CatRow::ScheduledFile(b) if a.path.as_str() == b.path.as_str()),
-        }
+/// The place of a key's table.
+fn rank(key: KeyRef<'_>) -> u8
+    ensures { result ≡ steps.ref_rank key.entry }
+{
+    match key {
+        KeyRef::Metadata(_) => 0,
+        KeyRef::Snapshot(_) => 1,
+        KeyRef::SnapshotChanges(_) => 2,
+        KeyRef::Schema(_) => 3,
+        KeyRef::Table(_) => 4,
+        KeyRef::Column(..) => 5,
+        KeyRef::DataFile(_) => 6,
+        KeyRef::DeleteFile(_) => 7,
+        KeyRef::FileColumnStats(..) => 8,
+        KeyRef::TableStats(_) => 9,
+        KeyRef::Inlined(..) => 10,
+        KeyRef::ScheduledFile(_) => 11,
+    }
+}
+
+/// The order of keys, first by their tables.
+fn order(a: KeyRef<'_>, b: KeyRef<'_>) -> Ordering
+    ensures { result ≡ key_cmp (steps.ref_parts a.entry) (steps.ref_parts b.entry) }
+{
+    match (a, b) {
+        (KeyRef::Metadata(a), KeyRef::Metadata(b))
+        | (KeyRef::ScheduledFile(a), KeyRef::ScheduledFile(b)) => a.as_bytes().cmp(b.as_bytes()),
+        (KeyRef::Snapshot(a), KeyRef::Snapshot(b))
+        | (KeyRef::SnapshotChanges(a), KeyRef::SnapshotChanges(b))
+        | (KeyRef::Schema(a), KeyRef::Schema(b))
+        | (KeyRef::Table(a), KeyRef::Table(b))
+        | (KeyRef::DataFile(a), KeyRef::DataFile(b))
+        | (KeyRef::DeleteFile(a), KeyRef::DeleteFile(b))
+        | (KeyRef::TableStats(a), KeyRef::TableStats(b)) => a.cmp(&b),
+        (KeyRef::FileColumnStats(a, b), KeyRef::FileColumnStats(x, y)) => [a, b]
+            .as_slice()
+            .cmp([x, y].as_slice()),
+        (KeyRef::Column(a, b, c), KeyRef::Column(x, y, z))
+        | (KeyRef::Inlined(a, b, c), KeyRef::Inlined(x, y, z)) => [a, b, c]
+            .as_slice()
+            .cmp([x, y, z].as_slice()),
+        _ => rank(a).cmp(&rank(b)),
     }
 }
 
@@ -100,57 +120,96 @@ trait HasKey {
 
     ghost key: { Self → Key };
 
-    fn has_same_key(&self, other: &Self) -> bool
-        ensures { result ≡ steps.is_same (key self.now) (key other.now) };
+    fn key_ref(&self) -> KeyRef<'_>
+        ensures { steps.ref_parts result ≡ steps.parts (key self.now) };
 }
 
 impl HasKey for Key {
     ghost key = { λ k. k };
 
-    fn has_same_key(&self, other: &Key) -> bool {
-        self.is_same(other)
+    fn key_ref(&self) -> KeyRef<'_> {
+        self.as_key_ref()
     }
 }
 
 impl HasKey for (Key, u64) {
     ghost key = { λ e. e.0 };
 
-    fn has_same_key(&self, other: &(Key, u64)) -> bool {
-        self.0.is_same(&other.0)
+    fn key_ref(&self) -> KeyRef<'_> {
+        self.0.as_key_ref()
     }
 }
 
 impl HasKey for CatRow {
     ghost key = { key_of };
 
-    fn has_same_key(&self, other: &CatRow) -> bool {
-        CatRow::has_same_key(self, other)
+    fn key_ref(&self) -> KeyRef<'_> {
+        CatRow::key_ref(self)
     }
 }
 
-/// Whether one of these has the key of another thing.
-fn has_key_of<T: HasKey>(items: &[T], other: &T) -> bool
-    ensures { result ≡ steps.has_key_of T.key items.now (T.key other.now) }
+/// Whether the keys rise, which a batch's lists mostly do.
+fn rises<T: HasKey>(items: &[T]) -> bool
+    ensures { result ≡ steps.rises T.key items.now }
 {
-    items.iter().any(|item| item.has_same_key(other))
+    let Some((mut last, others)) = items.split_first() else {
+        return true;
+    };
+    for item in others {
+        if !order(last.key_ref(), item.key_ref()).is_lt() {
+            return false;
+        }
+        last = item;
+    }
+    true
 }
 
-/// Whether no key stands twice.
-fn all_differ<T: HasKey>(items: &[T]) -> bool
+/// Whether one of these has this key.
+fn has_key<T: HasKey>(items: &[T], key: KeyRef<'_>) -> bool
+    ensures { result ≡ steps.has_parts T.key items.now (steps.ref_parts key.entry) }
+{
+    items.iter().any(|item| order(item.key_ref(), key).is_eq())
+}
+
+/// The same of keys that rise.
+fn has_key_in_order<T: HasKey>(items: &[T], key: KeyRef<'_>) -> bool
+    requires { steps.rises T.key items.now ≡ true }
+    ensures { result ≡ steps.has_parts T.key items.now (steps.ref_parts key.entry) }
+{
+    items
+        .binary_search_by(|item| order(item.key_ref(), key))
+        .is_ok()
+}
+
+/// Whether no key stands twice, each compared with all behind it.
+fn each_differs<T: HasKey>(items: &[T]) -> bool
     ensures { result ≡ steps.all_differ T.key items.now }
 {
     for (i, item) in items.iter().enumerate() {
-        if has_key_of(&items[i + 1..], item) {
+        if has_key(&items[i + 1..], item.key_ref()) {
             return false;
         }
     }
     true
 }
 
-fn is_among(keys: &[Key], key: &Key) -> bool
-    ensures { result ≡ steps.is_among keys.now key.now }
+/// Whether no key stands twice. Keys that rise don't; others are compared with one another.
+fn all_differ<T: HasKey>(items: &[T]) -> bool
+    ensures { result ≡ steps.all_differ T.key items.now }
 {
-    keys.iter().any(|k| k.is_same(key))
+    rises(items) || each_differs(items)
+}
+
+/// Whether a key is among these. Keys that rise are searched for it.
+fn is_among(keys: &[Key], rising: bool, key: KeyRef<'_>) -> bool
+    requires { rising ≡ true → steps.rises (λ k. k) keys.now ≡ true }
+    ensures { result ≡ steps.has_parts (λ k. k) keys.now (steps.ref_parts key.entry) }
+{
+    if rising {
+        has_key_in_order(keys, key)
+    } else {
+        has_key(keys, key)
+    }
 }
 
 /// Whether there is a row of each key.
@@ -164,28 +223,23 @@ fn all_there(rows: &CatRows, keys: &[Key]) -> bool
 fn all_open(rows: &CatRows, removes: &[Key], ends: &[(Key, u64)]) -> bool
     ensures { result ≡ steps.all_open (tables_of rows.now) removes.now ends.now }
 {
-    ends.iter()
-        .all(|end| rows.is_open(&end.0) && !is_among(removes, &end.0))
-}
-
-/// Whether the key of a row is among these.
-fn has_key_among(row: &CatRow, keys: &[Key]) -> bool
-    ensures { result ≡ steps.is_among keys.now (key_of row.now) }
-{
-    keys.iter().any(|key| row.has_key(key))
+    let rising = rises(removes);
+    ends.iter().all(|end| rows.is_open(&end.0) && !is_among(removes, rising, end.0.as_key_ref()))
 }
 
 /// Whether a row's key isn't there, or is removed.
-fn is_new(rows: &CatRows, removes: &[Key], row: &CatRow) -> bool
+fn is_new(rows: &CatRows, removes: &[Key], rising: bool, row: &CatRow) -> bool
+    requires { rising ≡ true → steps.rises (λ k. k) removes.now ≡ true }
     ensures { result ≡ steps.is_new (tables_of rows.now) removes.now row.now }
 {
-    !rows.holds_key_of(row) || has_key_among(row, removes)
+    !rows.holds_key_of(row) || is_among(removes, rising, CatRow::key_ref(row))
 }
 
 fn all_new(rows: &CatRows, removes: &[Key], adds: &[CatRow]) -> bool
     ensures { result ≡ steps.all_new (tables_of rows.now) removes.now adds.now }
 {
-    adds.iter().all(|row| is_new(rows, removes, row))
+    let rising = rises(removes);
+    adds.iter().all(|row| is_new(rows, removes, rising, row))
 }
 
 /// Whether a batch fits the rows: no key stands twice in one of its lists, removed keys are there, ended

@@ -1,4 +1,5 @@
 pub mod CountLemmas
+pub mod GapLemmas
 pub mod PastLemmas
 pub mod PointLemmas
 pub mod RowLemmas

@@ -39,7 +39,7 @@ module _ {R : Type 0} (key : R → List ℕ) where
       rw lower (omega arith)
 
   -- a row below another stands before it
-  place_below : (rows : List R) (i j : ℕ) (q r : R) → RisesByKey key rows → slice_get rows i ≡ Some r → slice_get rows j ≡ Some q → is_lt (key_cmp (key q) (key r)) ≡ true → j < i
+  pub place_below : (rows : List R) (i j : ℕ) (q r : R) → RisesByKey key rows → slice_get rows i ≡ Some r → slice_get rows j ≡ Some q → is_lt (key_cmp (key q) (key r)) ≡ true → j < i
   place_below [] i j q r up here there lower = absurd cc
   place_below (x ∷ xs) zero zero q r up here there lower =
       let P : R → Type 0 = λ y. is_lt (key_cmp (key y) (key r)) ≡ true in

@@ -1,5 +1,5 @@
 -- Where spans begin to cover their group and where they stop to, in one order: by group, and then by number.
-use Rattle.std.specs.Prelude.{◌≡◌, ℕ, Bool, true, ◌&&◌, not, List, [], ◌∷◌, Option, Some, None, max}
+use Rattle.std.specs.Prelude.{◌≡◌, ◌<◌, ℕ, Bool, true, ◌&&◌, not, List, [], ◌∷◌, Option, Some, None, count_by, map, max}
 use Rattle.std.specs.Option.{option_map}
 use Rattle.std.specs.Ordering.{is_gt, nat_cmp, ordering_then}
 use Rattle.std.specs.declared.cmp.Ordering.{Ordering}
@@ -39,7 +39,26 @@ are_upto [] qs = true
 are_upto (p ∷ ps) [] = true
 are_upto (p ∷ ps) (q ∷ qs) = is_upto p q && are_upto ps qs
 
+-- each point stands at those that follow it or before them
+abbrev pub Ascends : List Point → Type 0
+Ascends = IsAscending (λ p q. is_upto p q ≡ true)
+
+-- how many of some points stand up to m
+abbrev pub upto_count : Point → List Point → ℕ
+upto_count m = count_by (λ p. is_upto p m)
+
 -- the points of qs are those of ps, in order
 pub record IsInOrder (ps qs : List Point) : Type 0 where
   pub same : IsPermutation ps qs
-  pub ascend : IsAscending (λ p q. is_upto p q ≡ true) qs
+  pub ascend : Ascends qs
+
+-- the begins and the stops of some spans, in order
+abbrev pub AreMarksOf : List Extent → List Point → List Point → Type 0
+AreMarksOf spans begins stops = IsInOrder (map begin_of spans) begins × IsInOrder (map stop_of spans) stops
+
+abbrev pub point_at : List ℕ → ℕ → Point
+point_at g n = record { group = g; number = Some n }
+
+-- more have begun than stopped there
+abbrev pub IsCoveredAt : List Point → List Point → Point → Type 0
+IsCoveredAt begins stops p = upto_count p stops < upto_count p begins

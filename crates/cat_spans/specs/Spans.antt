@@ -1,6 +1,6 @@
 -- Spans of numbers in groups: how many spans of a group cover a number, and which span is one too many.
-use Rattle.std.specs.Prelude.{◌≡◌, ◌≤◌, ◌<◌, ℕ, Bool, true, ◌&&◌, List, take, count_by, Option, Some, None, nat_le}
-use Rattle.std.specs.List.{slice_get}
+use Rattle.std.specs.Prelude.{◌≡◌, ◌≤◌, ◌<◌, ℕ, Bool, true, ◌&&◌, List, length, take, count_by, Option, Some, None, nat_le}
+use Rattle.std.specs.List.{All, AllWithin, HoldsAt, slice_get}
 use Rattle.std.specs.Ordering.{is_eq, is_lt}
 use Rattle.cat_tables.specs.Table.{key_cmp}
 use Rattle.cat_tables.specs.Validity.{is_before}
@@ -60,3 +60,14 @@ module _ {R : Type 0} (key : R → List ℕ) (span : R → Extent) where
   IsFirstRowPast limit rows (Some i) =
       (r : R) × (slice_get rows i ≡ Some r) × IsRowPast limit rows r
       × ((j : ℕ) (q : R) → slice_get rows j ≡ Some q → IsRowPast limit rows q → is_lt (key_cmp (key q) (key r)) ≡ true → ⊥)
+
+-- ---- numbers that nothing covers
+
+-- a number that the span covers is covered by none of the others, in its group
+abbrev pub HasGap : List Extent → Extent → Type 0
+HasGap others x = (s : ℕ) × (covers s x ≡ true) × (depth_at x.group s others ≡ 0)
+
+-- the place of the first span with such a number, if there is one
+abbrev pub IsFirstGap : List Extent → List Extent → Option ℕ → Type 0
+IsFirstGap others spans None = All (λ x. HasGap others x → ⊥) spans
+IsFirstGap others spans (Some i) = (i < length spans) × HoldsAt (HasGap others) spans i × AllWithin (λ x. HasGap others x → ⊥) spans 0 i

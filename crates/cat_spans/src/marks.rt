@@ -1,6 +1,6 @@
-ghost use Rattle.std.specs.Prelude.{◌≡◌, IfOk, drop, map};
+ghost use Rattle.std.specs.Prelude.{◌≡◌, ◌≤◌, IfOk, drop, length, map};
 ghost use Rattle.cat_spans.specs.Marks.{point_of};
-ghost use Rattle.cat_spans.specs.Points.{begin_of, stop_of, are_upto, IsInOrder};
+ghost use Rattle.cat_spans.specs.Points.{begin_of, stop_of, are_upto, upto_count, Ascends, IsInOrder};
 
 use crate::span::{Group, Span};
 use std::alloc::{AllocError, Global};
@@ -50,4 +50,13 @@ pub(crate) fn are_upto(marks: &[Mark<'_>], others: &[Mark<'_>], behind: usize) -
         .iter()
         .zip(others.iter().skip(behind))
         .all(|(mark, other)| !mark.cmp(other).is_gt())
+}
+
+/// How many marks stand up to this one.
+pub(crate) fn upto(marks: &[Mark<'_>], mark: &Mark<'_>) -> usize
+    requires { Ascends (map point_of marks.now) }
+    ensures count { result ≡ upto_count (point_of mark.now) (map point_of marks.now) }
+    ensures within { result ≤ length marks.now }
+{
+    marks.partition_point(|other| !other.cmp(mark).is_gt())
 }

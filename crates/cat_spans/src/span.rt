@@ -31,7 +31,8 @@ impl<'a> Model for Span<'a> {
 impl<'a> Span<'a> {
     ghost use Rattle.cat_spans.specs.Groups.{group_of};
     ghost use Rattle.cat_spans.specs.Marks.{point_of};
-    ghost use Rattle.cat_spans.specs.Points.{begin_of, stop_of};
+    ghost use Rattle.cat_spans.specs.Points.{begin_of, point_at, stop_of};
+    ghost use Rattle.cat_spans.specs.Spans as spec;
 
     pub fn new(group: Group<'a>, begin: u64, end: Option<u64>) -> Span<'a>
         ensures { result ≡ record { group = group_of group.entry; begin = begin; end = end } }
@@ -46,6 +47,32 @@ impl<'a> Span<'a> {
             group: self.group,
             place: Place::At(self.begin),
         }
+    }
+
+    /// The place of a number in its group.
+    pub(crate) fn mark_at(&self, number: u64) -> Mark<'a>
+        ensures { point_of result ≡ point_at self.now.group number }
+    {
+        Mark {
+            group: self.group,
+            place: Place::At(number),
+        }
+    }
+
+    pub(crate) fn begin(&self) -> u64
+        ensures { result ≡ self.now.begin }
+    {
+        self.begin
+    }
+
+    pub(crate) fn covers(&self, number: u64) -> bool
+        ensures { result ≡ spec.covers number self.now }
+    {
+        self.begin <= number
+            && match self.end {
+                Some(end) => number < end,
+                None => true,
+            }
     }
 
     /// A span that doesn't end past its begin stops where it begins.

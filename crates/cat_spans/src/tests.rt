@@ -1,4 +1,4 @@
-use crate::{Group, Span, first_past};
+use crate::{Group, Span, first_gap, first_past};
 use std::alloc::{AllocError, Global};
 use std::test::Fail;
 
@@ -56,5 +56,38 @@ fn as_many_as_may(rt: HostRuntime) -> Result<(), Fail> {
     assert_eq!(rt; answers(alloc, 2, pile, Some(2))?, true);
     assert_eq!(rt; answers(alloc, 3, pile, Some(3))?, true);
     assert_eq!(rt; answers(alloc, 4, pile, None)?, true);
+    Ok(())
+}
+
+fn gaps(
+    alloc: Global,
+    rows: &[Row],
+    others: &[Row],
+    wanted: Option<usize>,
+) -> Result<bool, AllocError> {
+    Ok(first_gap(alloc, &spans(alloc, rows)?, &spans(alloc, others)?)? == wanted)
+}
+
+#[test]
+fn numbers_that_nothing_covers(rt: HostRuntime) -> Result<(), Fail> {
+    let alloc = rt.alloc();
+    let rows: &[Row] = &[("a", 3, Some(3)), ("a", 2, Some(9)), ("a", 1, Some(9))];
+    let chain: &[Row] = &[("a", 5, Some(9)), ("b", 1, None), ("a", 2, Some(5))];
+    assert_eq!(rt; gaps(alloc, rows, chain, Some(2))?, true);
+    assert_eq!(rt; gaps(alloc, &[("a", 2, Some(10))], chain, Some(0))?, true);
+    assert_eq!(rt;
+        gaps(alloc, &[("b", 7, None), ("a", 2, Some(9))], chain, None)?,
+        true
+    );
+    assert_eq!(rt;
+        gaps(
+            alloc,
+            &[("a", 2, Some(9))],
+            &[("a", 2, Some(5)), ("a", 6, None)],
+            Some(0)
+        )?,
+        true
+    );
+    assert_eq!(rt; gaps(alloc, rows, &[], Some(1))?, true);
     Ok(())
 }

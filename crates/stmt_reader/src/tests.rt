@@ -8,7 +8,7 @@ use std::test::Fail;
 const LINE_MOST: usize = 1_048_576;
 
 /// Lines that say nothing, each with its session and the place of the fault.
-const FAULTS: [(&[u8], u8, u64); 24] = [
+const FAULTS: [(&[u8], u8, u64); 50] = [
     (b"", 0, 0),
     (b"17 BEGIN", 0, 0),
     (b"-0 BEGIN", 0, 0),
@@ -33,6 +33,32 @@ const FAULTS: [(&[u8], u8, u64); 24] = [
     (b"1 SELECT a FROM t WHERE a => 5", 1, 26),
     (b"1 SELECT * FROM t WHERE NOT", 1, 27),
     (b"1 UPDATE t SET a = 1,", 1, 21),
+    (b"0 BEGIN", 0, 0),
+    (b"99999999999999999999 CLEAN", 0, 0),
+    (b"1BEGIN;x", 1, 7),
+    (b"  2", 2, 3),
+    (b"1 # CLEAN", 1, 2),
+    (b"3 SELECT", 3, 8),
+    (b"3 SELECT a b FROM t", 3, 11),
+    (b"3 SELECT *, a FROM t", 3, 10),
+    (b"3 SELECT * FROM t WHERE a = b", 3, 28),
+    (b"3 SELECT * FROM t WHERE (a = 1", 3, 30),
+    (b"3 SELECT * FROM t WHERE a = 1)", 3, 29),
+    (b"3 SELECT * FROM t WHERE a IS 5", 3, 29),
+    (b"3 SELECT * FROM t WHERE a ! = 1", 3, 26),
+    (b"1 CREATE TABLE t ()", 1, 18),
+    (b"1 CREATE TABLE t (a TEXT)", 1, 20),
+    (b"1 CREATE TABLE a.b.c (d DATE)", 1, 18),
+    (b"1 ALTER TABLE t ADD c DATE", 1, 20),
+    (b"1 ALTER TABLE t RENAME COLUMN a b", 1, 32),
+    (b"1 INSERT INTO t (a) VALUES (1)", 1, 16),
+    (b"1 INSERT INTO t VALUES (1) (2)", 1, 27),
+    (b"1 INSERT INTO t VALUES ('\xff')", 1, 24),
+    (b"1 INSERT INTO t VALUES (1\xff)", 1, 25),
+    (b"1 UPDATE t SET a == 1", 1, 18),
+    (b"1 DELETE t", 1, 9),
+    (b"1 FLUSH values", 1, 8),
+    (b"1 BEGIN AT (VERSION => -1)", 1, 23),
 ];
 
 /// Lines that say the same.
@@ -67,6 +93,10 @@ fn is_fault(alloc: Global, line: &[u8], session: u8, at: u64) -> bool {
         Err(found) => found == LineNo::Syntax { session, at },
         Ok(_) => false,
     }
+}
+
+fn is_read(alloc: Global, line: &[u8]) -> bool {
+    read_line(alloc, line).is_ok()
 }
 
 fn shown(alloc: Global, line: &[u8]) -> Result<String, AllocError> {
@@ -156,5 +186,21 @@ fn deepest_test(rt: HostRuntime) -> Result<(), Fail> {
     assert!(rt; is_fault(alloc, line.as_slice(), 1, 88));
     let line = with_many(alloc, start, b'(', 1_000_000)?;
     assert!(rt; is_fault(alloc, line.as_slice(), 1, 88));
+    Ok(())
+}
+
+#[test]
+fn longest_names(rt: HostRuntime) -> Result<(), Fail> {
+    let alloc = rt.alloc();
+    let line = with_many(alloc, b"1 DROP SCHEMA ", b'a', 256)?;
+    assert!(rt; is_fault(alloc, line.as_slice(), 1, 14));
+    let mut line = with_many(alloc, b"1 DROP SCHEMA \"", b'a', 256)?;
+    line.push(b'"')?;
+    assert!(rt; is_fault(alloc, line.as_slice(), 1, 14));
+    let word = with_many(alloc, b"1 DROP SCHEMA ", b'a', 255)?;
+    let mut name = with_many(alloc, b"1 DROP SCHEMA \"", b'a', 255)?;
+    name.push(b'"')?;
+    assert!(rt; is_read(alloc, word.as_slice()));
+    assert!(rt; say_the_same(alloc, word.as_slice(), name.as_slice()));
     Ok(())
 }

@@ -1,12 +1,12 @@
 -- What holds of the values that grammars give to tokens of a line.
-use Rattle.std.proofs.Common.{◌≡◌, Bool, true, false, ◌&&◌, List, [], ◌∷◌, ◌++◌, map, refl, ap, sym, ◌∙◌, subst, inl, inr, Option, Some, None}
+use Rattle.std.proofs.Common.{◌≡◌, Bool, true, ◌&&◌, List, [], ◌∷◌, map, refl, ap, ◌∙◌, subst, inl, inr, Option, Some, None}
 use Rattle.std.proofs.lemmas.Bool.{and_parts}
 use Rattle.std.specs.List.{list_all}
 use Rattle.line_tokens.specs.declared.token.Kind.{Kind}
 use Rattle.line_tokens.specs.declared.token.Kind.TheVariants as k
 use Rattle.line_tokens.specs.declared.token.Token.{Token}
-use Rattle.token_grammar.specs.Grammar.{Grammar, token, both, either, maybe, many, made, Spells, SpellsAll}
-use Rattle.token_grammar.specs.Phrases.{word, ◌then◌, ◌or◌, chain, list, parenthesized}
+use Rattle.token_grammar.specs.Grammar.{Grammar, token, maybe, many, made, Spells}
+use Rattle.token_grammar.specs.Phrases.{word, ◌then◌, ◌or◌, chain, parenthesized}
 use Rattle.stmt_text.proofs.TokenFits.{Fits, AllFit, fit_parts}
 use Rattle.stmt_text.specs.Printable.{is_some_of}
 

@@ -1,15 +1,13 @@
 -- What a line says can be printed.
-use Rattle.std.proofs.Common.{◌≡◌, ℕ, Bool, true, false, not, ◌&&◌, ◌⊎◌, List, [], ◌∷◌, refl, inl, inr, Option, Some, None}
-use Rattle.std.specs.Prelude.{nat_le, option_map, is_some, Result, Ok, Err, IfOk}
+use Rattle.std.proofs.Common.{◌≡◌, ℕ, Bool, true, false, ◌&&◌, ◌⊎◌, List, [], ◌∷◌, refl, inl, inr, Option, Some, None}
+use Rattle.std.specs.Prelude.{option_map, Result, Ok, Err, IfOk}
 use Rattle.std.specs.List.{list_all}
 use Rattle.std.proofs.lemmas.Bool.{and_parts}
 use Rattle.lake_types.specs.declared.value.ColType.{ColType}
 use Rattle.lake_types.specs.declared.value.Value.{Value}
 use Rattle.lake_types.specs.declared.stmt.Stmt.{Stmt}
 use Rattle.lake_types.specs.declared.stmt.Stmt.TheVariants as stmts
-use Rattle.lake_types.specs.declared.stmt.Alter.{Alter}
 use Rattle.lake_types.specs.declared.stmt.Alter.TheVariants as alters
-use Rattle.lake_types.specs.declared.stmt.Cell.{Cell}
 use Rattle.lake_types.specs.declared.stmt.Cell.TheVariants as cells
 use Rattle.lake_types.specs.declared.stmt.Item.{Item}
 use Rattle.lake_types.specs.declared.stmt.Item.TheVariants as items
@@ -18,10 +16,10 @@ use Rattle.line_tokens.specs.declared.token.Kind.{Kind}
 use Rattle.line_tokens.specs.declared.token.Kind.TheVariants as k
 use Rattle.token_grammar.specs.Grammar.{Grammar, maybe, made}
 use Rattle.token_grammar.specs.Phrases.{word, ◌then◌, ◌or◌, list, parenthesized}
-use Rattle.stmt_reader.specs.Lines.{LineAnswers, Says}
+use Rattle.stmt_reader.specs.Lines.{LineAnswers}
 use Rattle.stmt_reader.specs.declared.line.LineNo.{LineNo}
 use Rattle.stmt_reader.specs.Rules as rules
-use Rattle.stmt_text.proofs.Gives.{Gives, both_true, or_none, word_gives, both_gives, next_gives, before_gives, either_gives, made_gives, maybe_gives, chain_gives, enclosed_gives}
+use Rattle.stmt_text.proofs.Gives.{Gives, both_true, or_none, word_gives, both_gives, next_gives, either_gives, made_gives, maybe_gives, chain_gives, enclosed_gives}
 use Rattle.stmt_text.proofs.SaidTests.{anything, name_gives, table_gives, count_gives, session_gives, is_session, literal_gives, where_gives}
 use Rattle.stmt_text.proofs.TokenFits.{tokens_fit}
 use Rattle.stmt_text.specs.Laws.{WhatIsSaidIsPrintable}

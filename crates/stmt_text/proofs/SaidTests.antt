@@ -1,13 +1,12 @@
 -- Names, values and tests that a line says can be printed.
-use Rattle.std.proofs.Common.{◌≡◌, ◌==◌, ℕ, zero, suc, ◌+◌, ◌-◌, ◌^◌, ◌≤◌, ◌<◌, max, ℤ, pos, neg_ℤ, ◌+ℤ◌, Bool, true, false, cond, not, ◌&&◌, ◌⊎◌, List, [], ◌∷◌, ◌++◌, map, fold, refl, ap, sym, ◌∙◌, subst, arith, inl, inr, Option, Some, None}
-use Rattle.std.specs.Prelude.{nat_le, nat_lt, int_le, int_lt, option_map, is_some}
+use Rattle.std.proofs.Common.{◌≡◌, ◌==◌, ℕ, zero, suc, ◌+◌, ◌^◌, ◌≤◌, ◌<◌, max, ℤ, pos, neg_ℤ, Bool, true, false, cond, not, ◌&&◌, ◌⊎◌, List, [], ◌∷◌, map, fold, refl, ap, sym, ◌∙◌, subst, arith, inl, inr, Option, Some, None}
+use Rattle.std.specs.Prelude.{nat_le, nat_lt, option_map, is_some}
 use Rattle.std.specs.List.{list_all}
 use Rattle.std.specs.Str.{bytes_eq}
 use Rattle.std.proofs.lemmas.Bool.{and_parts}
 use Rattle.std.proofs.lemmas.Int.{ints}
 use Rattle.lake_types.specs.Calendar.{is_day, day_text}
 use Rattle.lake_types.specs.Fits.{fits}
-use Rattle.lake_types.specs.declared.value.ColType.{ColType}
 use Rattle.lake_types.specs.declared.value.ColType.TheVariants as ty
 use Rattle.lake_types.specs.declared.value.Value.{Value}
 use Rattle.lake_types.specs.declared.value.Value.TheVariants as value
@@ -17,21 +16,18 @@ use Rattle.lake_types.specs.declared.pred.Pred.TheVariants as pred
 use Rattle.lake_types.specs.declared.pred.Pred.TheVariants.{rolls-Compare, rolls-IsNull, rolls-NotNull, rolls-Not, rolls-And, rolls-Or}
 use Rattle.lake_types.specs.declared.pred.Pred.TheOpen.{Pred-F}
 use Rattle.lake_types.specs.declared.pred.Pred.TheViews.{roll-Pred}
-use Rattle.lake_types.specs.declared.pred.Pred.TheFolds.{fold-Pred, fold-roll-Pred}
-use Rattle.lake_types.specs.declared.stmt.TableName.{TableName}
-use Rattle.lake_types.specs.declared.stmt.ColumnDef.{ColumnDef}
+use Rattle.lake_types.specs.declared.pred.Pred.TheFolds.{fold-roll-Pred}
 use Rattle.line_tokens.specs.declared.token.Kind.{Kind}
 use Rattle.line_tokens.specs.declared.token.Kind.TheVariants as k
 use Rattle.line_tokens.specs.declared.token.Token.{Token}
-use Rattle.token_grammar.specs.Grammar.{Grammar, token, both, either, maybe, many, made, Spells}
-use Rattle.token_grammar.specs.Phrases.{is, word, ◌then◌, ◌or◌, chain, list, parenthesized}
+use Rattle.token_grammar.specs.Grammar.{Grammar, maybe, made}
+use Rattle.token_grammar.specs.Phrases.{is, word, ◌then◌, ◌or◌, chain, parenthesized}
 use Rattle.stmt_reader.specs.Dates.{day_among, day_number}
 use Rattle.stmt_reader.specs.Rules as rules
 use Rattle.stmt_reader.specs.Values.{signed, integer_of, is_negative, magnitude, counted, count_of, numbered, session_of, unhex}
-use Rattle.stmt_text.proofs.Gives.{Gives, both_true, or_none, token_gives, word_gives, both_gives, next_gives, before_gives, either_gives, made_gives, maybe_gives, many_gives, chain_gives, enclosed_gives}
-use Rattle.stmt_text.proofs.TokenFits.{Fits}
-use Rattle.stmt_text.specs.Printable.{is_name, is_table, is_literal, is_default, is_column, is_count, is_some_of, is_sound, is_sound_at, has_two, is_test, is_where}
-use Rattle.stmt_text.specs.Printed.{Shown, shown, shown_at, within, is_enclosed, in_parentheses, deepest}
+use Rattle.stmt_text.proofs.Gives.{Gives, both_true, or_none, token_gives, both_gives, next_gives, either_gives, made_gives, maybe_gives, chain_gives, enclosed_gives}
+use Rattle.stmt_text.specs.Printable.{is_name, is_table, is_literal, is_count, is_some_of, is_sound, is_sound_at, has_two, is_test, is_where}
+use Rattle.stmt_text.specs.Printed.{Shown, shown, shown_at, within, deepest}
 use Rattle.stmt_text.specs.declared.predicate.Shape.{Shape}
 use Rattle.stmt_text.specs.declared.predicate.Shape.TheVariants as shapes
 

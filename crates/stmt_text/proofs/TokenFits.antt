@@ -1,5 +1,5 @@
 -- A line's names have 1 to 255 bytes.
-use Rattle.std.proofs.Common.{◌≡◌, ℕ, zero, suc, ◌+◌, ◌-◌, Bool, true, false, cond, ◌&&◌, ◌||◌, List, [], ◌∷◌, ◌++◌, length, take, drop, ◌==◌, ◌∙◌, refl, ap, sym, arith, Option, Some, None}
+use Rattle.std.proofs.Common.{◌≡◌, ℕ, zero, suc, ◌+◌, ◌-◌, Bool, true, false, cond, ◌&&◌, List, [], ◌∷◌, ◌++◌, length, take, drop, ◌==◌, ◌∙◌, refl, sym, arith, Option, Some, None}
 use Rattle.std.specs.Prelude.{nat_le, option_map}
 use Rattle.std.specs.Str.{is_utf8}
 use Rattle.line_tokens.specs.Tokens.{bad, bytes_at, closing, is_blank, is_bytes, is_letter, is_number, keyword, long_sign, long_sign_of, made, number_at, plain, quoted_at, quoted_of, quoted_to, sign_at, sign_of, sign_to, taken, text_at, text_to, token_at, tokens_in, tokens_of, undouble, word_at, word_of, hex_len, digits_len, word_len}

@@ -1,6 +1,6 @@
 use Rattle.std.proofs.Common.{◌≡◌, drop}
 use Rattle.cat_rows.specs.Steps as steps
-use Rattle.cat_rows.proofs.fitting.all_differ.Given as goal
+use Rattle.cat_rows.proofs.fitting.each_differs.Given as goal
 
 -- whether all differ is whether those that are left do
 abbrev pub invariant-loop-i : goal.invariant-loop-i
