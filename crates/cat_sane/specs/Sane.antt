@@ -11,7 +11,7 @@ use Rattle.cat_rules.specs.Named.{Tells}
 use Rattle.cat_rules.specs.declared.bad_row.BadRow.{BadRow}
 use Rattle.cat_cell_rules.specs.Columns.{IsColumnBad}
 use Rattle.cat_cell_rules.specs.Inlined.{IsInlinedBad}
-use Rattle.cat_name_rules.specs.Columns.{IsCrowdedColumn}
+use Rattle.cat_name_rules.specs.Columns.{IsColumnless, IsCrowdedColumn}
 use Rattle.cat_name_rules.specs.Earlier.{IsSchemaNameBad, IsSecondDeleteFile, IsTableNameBad}
 use Rattle.cat_name_rules.specs.Inlined.{IsPastThousand}
 use Rattle.cat_reference_rules.specs.References.{IsDataFileWrong, IsDeleteFileWrong, IsTableUnmatched}
@@ -26,7 +26,10 @@ abbrev pub IsTableBad : Tables → Key → Type 0
 IsTableBad t k = IsTableUnmatched t k ⊎ IsTableNameBad t k
 
 abbrev pub AreColumnsBad : Tables → Key → Type 0
-AreColumnsBad t k = IsCrowdedColumn t k ⊎ IsColumnBad t k
+AreColumnsBad t k = IsColumnless t k ⊎ (IsCrowdedColumn t k ⊎ IsColumnBad t k)
+
+abbrev pub IsDataFileBad : Tables → Key → Type 0
+IsDataFileBad t k = IsDataFileWrong t k
 
 abbrev pub IsDeleteFileBad : Tables → Key → Type 0
 IsDeleteFileBad t k = IsDeleteFileWrong t k ⊎ IsSecondDeleteFile t k
@@ -49,15 +52,41 @@ abbrev pub NoRuleLeft : Option BadRow → Type 0
 NoRuleLeft None = Unit {0}
 NoRuleLeft (Some b) = ⊥
 
-abbrev pub FromInlined : Tables → Option BadRow → Type 0
-FromInlined t = Then 10 (AreInlinedBad t) (Then 11 (IsStatsBad t) (Then 12 (IsIdBad t) NoRuleLeft))
+-- From one rule on: what it and the later ones tell.
 
-abbrev pub FromFiles : Tables → Option BadRow → Type 0
-FromFiles t = Then 7 (IsDataFileWrong t) (Then 8 (IsDeleteFileBad t) (Then 9 (IsColumnStatsBad t) (FromInlined t)))
+abbrev pub FromIds : Tables → Option BadRow → Type 0
+FromIds t = Then 12 (IsIdBad t) NoRuleLeft
+
+abbrev pub FromStats : Tables → Option BadRow → Type 0
+FromStats t = Then 11 (IsStatsBad t) (FromIds t)
+
+abbrev pub FromInlined : Tables → Option BadRow → Type 0
+FromInlined t = Then 10 (AreInlinedBad t) (FromStats t)
+
+abbrev pub FromColumnStats : Tables → Option BadRow → Type 0
+FromColumnStats t = Then 9 (IsColumnStatsBad t) (FromInlined t)
+
+abbrev pub FromDeleteFiles : Tables → Option BadRow → Type 0
+FromDeleteFiles t = Then 8 (IsDeleteFileBad t) (FromColumnStats t)
+
+abbrev pub FromDataFiles : Tables → Option BadRow → Type 0
+FromDataFiles t = Then 7 (IsDataFileBad t) (FromDeleteFiles t)
+
+abbrev pub FromColumns : Tables → Option BadRow → Type 0
+FromColumns t = Then 6 (AreColumnsBad t) (FromDataFiles t)
+
+abbrev pub FromTables : Tables → Option BadRow → Type 0
+FromTables t = Then 5 (IsTableBad t) (FromColumns t)
 
 abbrev pub FromSchemas : Tables → Option BadRow → Type 0
-FromSchemas t = Then 4 (IsSchemaNameBad t) (Then 5 (IsTableBad t) (Then 6 (AreColumnsBad t) (FromFiles t)))
+FromSchemas t = Then 4 (IsSchemaNameBad t) (FromTables t)
+
+abbrev pub FromIntervals : Tables → Option BadRow → Type 0
+FromIntervals t = Then 3 (IsIntervalBad t) (FromSchemas t)
+
+abbrev pub FromHistory : Tables → Option BadRow → Type 0
+FromHistory t = Then 2 (IsHistoryBad t) (FromIntervals t)
 
 -- The first rule that is broken, with its first bad row; none where all hold.
 abbrev pub IsFirstBadRow : Tables → Option BadRow → Type 0
-IsFirstBadRow t = Then 1 (IsLayoutBad t) (Then 2 (IsHistoryBad t) (Then 3 (IsIntervalBad t) (FromSchemas t)))
+IsFirstBadRow t = Then 1 (IsLayoutBad t) (FromHistory t)

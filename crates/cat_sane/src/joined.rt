@@ -7,7 +7,8 @@ ghost use Rattle.cat_sane.specs.Sane as spec;
 
 use cat_cell_rules::{first_wrong_column, first_wrong_inlined};
 use cat_name_rules::{
-    first_crowded_column, first_crowded_inlined, first_second_delete_file, first_used_table_name,
+    first_columnless_table, first_crowded_column, first_crowded_inlined, first_second_delete_file,
+    first_used_table_name,
 };
 use cat_reference_rules::{first_unmatched_table, first_wrong_delete_file};
 use cat_rows::{CatRows, Key};
@@ -40,9 +41,10 @@ pub(crate) fn first_bad_columns(alloc: Global, rows: &CatRows) -> Result<Option<
     requires intervals { Holds (IsIntervalBad (tables_of rows.now)) }
     ensures { IfOk result (FirstBad (spec.AreColumnsBad (tables_of rows.now))) }
 {
+    let columnless = first_columnless_table(alloc, rows)?;
     let crowded = first_crowded_column(alloc, rows)?;
     let wrong = first_wrong_column(alloc, rows)?;
-    Ok(sooner(crowded, wrong))
+    Ok(sooner(columnless, sooner(crowded, wrong)))
 }
 
 /// The first bad row of the rule about delete files: each with its data file, and one of a data file at most.

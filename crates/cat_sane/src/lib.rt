@@ -3,5 +3,7 @@
 
 mod joined;
 mod sane;
+#[cfg(test)]
+mod tests;
 
 pub use sane::first_bad_row;

@@ -1,7 +1,8 @@
 use crate::first_bad_row;
 use cat_rows::{
-    Batch, CatRow, CatRowList, CatRows, ColumnRow, DataFileRow, DeleteFileRow, FileColumnStatsRow, InlinedRow, MetadataRow, SchemaRow, SnapshotChangesRow,
-    SnapshotRow, TableRow, TableStatsRow, apply_batch, fits_batch,
+    Batch, CatRow, CatRowList, CatRows, ColumnRow, DataFileRow, DeleteFileRow, FileColumnStatsRow,
+    InlinedRow, MetadataRow, SchemaRow, SnapshotChangesRow, SnapshotRow, TableRow, TableStatsRow,
+    apply_batch, fits_batch,
 };
 use lake_types::{Blob, Listed, NoMemory, Words};
 use std::alloc::Global;
@@ -264,9 +265,11 @@ struct Case {
 fn is_told(alloc: Global, case: Case) -> Result<bool, NoMemory> {
     let rows = catalogue(alloc, case.plan)?;
     match first_bad_row(alloc, &rows)? {
-        Some(bad) => Ok(bad.rule == case.rule
-            && bad.table.as_str() == case.table
-            && bad.key.as_str() == case.key),
+        Some(bad) => Ok(
+            bad.rule == case.rule
+                && bad.table.as_str() == case.table
+                && bad.key.as_str() == case.key,
+        ),
         None => Ok(false),
     }
 }
@@ -290,10 +293,7 @@ const CASES: [Case; 16] = [
         key: "layout",
     },
     Case {
-        plan: Plan {
-            newest: 3,
-            ..SANE
-        },
+        plan: Plan { newest: 3, ..SANE },
         rule: 2,
         table: "ducklake_snapshot",
         key: "2",
@@ -353,10 +353,7 @@ const CASES: [Case; 16] = [
         key: "1",
     },
     Case {
-        plan: Plan {
-            schema: 7,
-            ..SANE
-        },
+        plan: Plan { schema: 7, ..SANE },
         rule: 5,
         table: "ducklake_schema",
         key: "7",
