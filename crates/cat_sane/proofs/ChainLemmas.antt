@@ -1,8 +1,8 @@
 -- What one rule tells, or else the later ones.
-use Rattle.std.proofs.Common.{◌≡◌, ◌⊎◌, inl, inr, ℕ, Option, Some, None, Result, Ok, Err}
+use Rattle.std.proofs.Common.{inl, inr, ℕ, Option, Some, None, Result, Ok, Err}
 use Rattle.std.specs.Prelude.{IfOk, IsSomeAnd}
 use Rattle.cat_rows.specs.declared.batch.Key.{Key}
-use Rattle.cat_rules.specs.First.{FirstBad, Holds}
+use Rattle.cat_rules.specs.First.{FirstBad}
 use Rattle.cat_rules.specs.Named.{Tells}
 use Rattle.cat_rules.specs.declared.bad_row.BadRow.{BadRow}
 use Rattle.cat_sane.specs.Sane.{Then}

@@ -14,6 +14,7 @@ use Rattle.cat_cell_rules.specs.Inlined.{IsInlinedBad}
 use Rattle.cat_name_rules.specs.Columns.{IsColumnless, IsCrowdedColumn}
 use Rattle.cat_name_rules.specs.Earlier.{IsSchemaNameBad, IsSecondDeleteFile, IsTableNameBad}
 use Rattle.cat_name_rules.specs.Inlined.{IsPastThousand}
+use Rattle.cat_path_rules.specs.Paths.{IsPathBad}
 use Rattle.cat_reference_rules.specs.References.{IsDataFileWrong, IsDeleteFileWrong, IsTableUnmatched}
 use Rattle.cat_text_rules.specs.Texts.{IsTextBad}
 
@@ -29,7 +30,7 @@ abbrev pub AreColumnsBad : Tables → Key → Type 0
 AreColumnsBad t k = IsColumnless t k ⊎ (IsCrowdedColumn t k ⊎ IsColumnBad t k)
 
 abbrev pub IsDataFileBad : Tables → Key → Type 0
-IsDataFileBad t k = IsDataFileWrong t k
+IsDataFileBad t k = IsDataFileWrong t k ⊎ IsPathBad t k
 
 abbrev pub IsDeleteFileBad : Tables → Key → Type 0
 IsDeleteFileBad t k = IsDeleteFileWrong t k ⊎ IsSecondDeleteFile t k

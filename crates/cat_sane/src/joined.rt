@@ -10,7 +10,8 @@ use cat_name_rules::{
     first_columnless_table, first_crowded_column, first_crowded_inlined, first_second_delete_file,
     first_used_table_name,
 };
-use cat_reference_rules::{first_unmatched_table, first_wrong_delete_file};
+use cat_path_rules::first_bad_path;
+use cat_reference_rules::{first_unmatched_table, first_wrong_data_file, first_wrong_delete_file};
 use cat_rows::{CatRows, Key};
 use cat_rules::{first_bad_snapshot, sooner};
 use cat_text_rules::first_unread_text;
@@ -45,6 +46,16 @@ pub(crate) fn first_bad_columns(alloc: Global, rows: &CatRows) -> Result<Option<
     let crowded = first_crowded_column(alloc, rows)?;
     let wrong = first_wrong_column(alloc, rows)?;
     Ok(sooner(columnless, sooner(crowded, wrong)))
+}
+
+/// The first bad row of the rule about data files: each with its table and its numbers, and the paths of all files.
+pub(crate) fn first_bad_data_file(alloc: Global, rows: &CatRows) -> Result<Option<Key>, NoMemory>
+    requires history { Holds (IsSnapshotBad (tables_of rows.now)) }
+    requires intervals { Holds (IsIntervalBad (tables_of rows.now)) }
+    ensures { IfOk result (FirstBad (spec.IsDataFileBad (tables_of rows.now))) }
+{
+    let path = first_bad_path(alloc, rows)?;
+    Ok(sooner(first_wrong_data_file(rows), path))
 }
 
 /// The first bad row of the rule about delete files: each with its data file, and one of a data file at most.

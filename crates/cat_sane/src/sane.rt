@@ -7,10 +7,10 @@ ghost use Rattle.cat_rules.specs.Named.{Tells};
 ghost use Rattle.cat_sane.specs.Sane as spec;
 
 use crate::joined::{
-    first_bad_columns, first_bad_delete_file, first_bad_history, first_bad_inlined, first_bad_table,
+    first_bad_columns, first_bad_data_file, first_bad_delete_file, first_bad_history,
+    first_bad_inlined, first_bad_table,
 };
 use cat_name_rules::first_used_schema_name;
-use cat_reference_rules::first_wrong_data_file;
 use cat_rows::{CatRows, Key};
 use cat_rules::{
     BadRow, first_bad_column_stats, first_bad_id, first_bad_interval, first_bad_layout,
@@ -87,7 +87,7 @@ fn from_data_files(alloc: Global, rows: &CatRows) -> Result<Option<BadRow>, NoMe
     requires intervals { Holds (IsIntervalBad (tables_of rows.now)) }
     ensures { IfOk result (spec.FromDataFiles (tables_of rows.now)) }
 {
-    match first_wrong_data_file(rows) {
+    match first_bad_data_file(alloc, rows)? {
         Some(key) => told(alloc, &key, 7),
         None => from_delete_files(alloc, rows),
     }

@@ -1,4 +1,4 @@
-use Rattle.std.proofs.Common.{Option, Some, None, inl, subst}
+use Rattle.std.proofs.Common.{Option, subst}
 use Rattle.cat_rows.specs.Batches.{tables_of}
 use Rattle.cat_rows.specs.declared.batch.Key.{Key}
 use Rattle.cat_rules.specs.First.{FirstBad}
