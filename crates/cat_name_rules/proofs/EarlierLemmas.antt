@@ -64,11 +64,11 @@ counted_some p xs h = let e = count_by-is p xs in let le = count_of_some p xs h 
 
 -- ---- numbers that a row covers
 
-le_max : (a b s : ℕ) (c : Bool) → (nat_le (max a b) s && c) ≡ true → ((nat_le b s && c) ≡ true)
+pub le_max : (a b s : ℕ) (c : Bool) → (nat_le (max a b) s && c) ≡ true → ((nat_le b s && c) ≡ true)
 le_max a b s true h = grind (arith, nat_tests)
 le_max a b s false h = absurd (let e = (and_true (nat_le (max a b) s) false h).1 in cc)
 
-max_le : (a b s : ℕ) (c : Bool) → a ≤ s → (nat_le b s && c) ≡ true → (nat_le (max a b) s && c) ≡ true
+pub max_le : (a b s : ℕ) (c : Bool) → a ≤ s → (nat_le b s && c) ≡ true → (nat_le (max a b) s && c) ≡ true
 max_le a b s true le h = grind (arith, nat_tests)
 max_le a b s false le h = absurd (let e = (and_true (nat_le b s) false h).1 in cc)
 

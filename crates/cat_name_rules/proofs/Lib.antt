@@ -1,4 +1,5 @@
 pub mod ColumnLemmas
+pub mod ColumnlessLemmas
 pub mod CrowdedLemmas
 pub mod EarlierLemmas
 pub mod InlinedLemmas

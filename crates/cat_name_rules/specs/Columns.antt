@@ -1,5 +1,6 @@
 -- The rule by which the columns of a table differ and are so many at most.
-use Rattle.std.specs.Prelude.{◌≡◌, ◌⊎◌, ◌≤◌, ℕ, Bool, true, ◌==◌, ◌&&◌, List, [], ◌∷◌, Option, Some, None, count_by, max, min}
+use Rattle.std.specs.Prelude.{◌≡◌, ◌⊎◌, ◌≤◌, ℕ, Bool, true, false, ◌==◌, ◌&&◌, List, [], ◌∷◌, Option, Some, None, count_by, max, min}
+use Rattle.std.specs.List.{AllByRecursion}
 use Rattle.std.specs.Ordering.{is_lt}
 use Rattle.cat_tables.specs.Table.{key_cmp, row_of}
 use Rattle.cat_tables.specs.Validity.{is_visible}
@@ -10,7 +11,7 @@ use Rattle.cat_rows.specs.declared.batch.Key.{Key}
 use Rattle.cat_rows.specs.declared.schemas.ColumnRow.{ColumnRow}
 use Rattle.cat_rows.specs.declared.schemas.TableRow.{TableRow}
 use Rattle.cat_rules.specs.Lookups.{HasRow}
-use Rattle.cat_rules.specs.Places.{of_column}
+use Rattle.cat_rules.specs.Places.{of_column, of_table}
 use Rattle.cat_rules.specs.Rows.{SomeOf, Names, AtSome}
 use Rattle.cat_spans.specs.Spans.{Extent}
 
@@ -41,6 +42,17 @@ abbrev pub IsCrowdedColumn : Tables → Key → Type 0
 IsCrowdedColumn t k =
     Names of_column (IsPastHundred t) t.column k
     ⊎ (Names of_column (IsAlikeEarlier HaveOneOrder t) t.column k ⊎ Names of_column (IsAlikeEarlier HaveOneColumnName t) t.column k)
+
+-- a kept snapshot sees the table and no column of it
+abbrev pub HasNoColumn : Tables → TableRow → Type 0
+HasNoColumn t r = AtSome t (λ s. (is_visible table_validity s r ≡ true) × AllByRecursion (λ c. c.table_id ≡ r.table_id → is_visible column_validity s c ≡ false) t.column)
+
+-- At each kept snapshot a table that it sees has a column.
+abbrev pub IsColumnless : Tables → Key → Type 0
+IsColumnless t = Names of_table (HasNoColumn t) t.table
+
+abbrev pub group_by_id : TableRow → List ℕ
+group_by_id r = r.table_id ∷ 0 ∷ []
 
 -- ---- what a column covers
 

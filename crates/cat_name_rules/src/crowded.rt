@@ -1,14 +1,14 @@
-ghost use Rattle.std.specs.Prelude.{◌≡◌, true, IfOk};
+ghost use Rattle.std.specs.Prelude.{◌≡◌, true, IfOk, map};
 ghost use Rattle.cat_tables.specs.Table.{IsAscending};
 ghost use Rattle.cat_rows.specs.declared.batch.Key.{Key};
 ghost use Rattle.cat_rules.specs.First.{FirstBad};
 ghost use Rattle.cat_rules.specs.Places.{is_sooner};
 ghost use Rattle.cat_rules.specs.Rows.{Names};
 ghost use Rattle.cat_spans.specs.Spans.{Extent};
-ghost use Rattle.cat_name_rules.specs.Crowded.{IsCrowded, name_at};
+ghost use Rattle.cat_name_rules.specs.Crowded.{IsBare, IsCrowded, name_at};
 
 use cat_rows::Key;
-use cat_spans::{Span, first_past};
+use cat_spans::{Span, first_gap, first_past};
 use lake_types::NoMemory;
 use std::alloc::Global;
 
@@ -35,6 +35,17 @@ fn key_at<R, T: Grouped<R>>(rule: &T, rows: &[R], place: Option<usize>) -> Optio
     Some(rule.key(row))
 }
 
+/// What each row covers, in the order of the rows.
+fn spans_of<'a, R, T: Grouped<R>>(
+    alloc: Global,
+    rule: &T,
+    rows: &'a [R],
+) -> Result<Vec<Span<'a>>, NoMemory>
+    ensures { IfOk result (λ spans. spans.items ≡ map (T.extent rule.now) rows.now) }
+{
+    rows.iter().map(|row| rule.span(row)).collect(alloc)
+}
+
 /// The first of the keys that rows name which are one too many. Rows stand in the order of these keys.
 pub(crate) fn first_crowded<R, T: Grouped<R>>(
     alloc: Global,
@@ -45,7 +56,24 @@ pub(crate) fn first_crowded<R, T: Grouped<R>>(
     requires { IsAscending (λ a b. is_sooner (T.name a) (T.name b) ≡ true) rows.now }
     ensures { IfOk result (FirstBad (Names T.name (IsCrowded T.name (T.extent rule.now) limit rows.now) rows.now)) }
 {
-    let spans: Vec<Span<'_>> = rows.iter().map(|row| rule.span(row)).collect(alloc)?;
+    let spans = spans_of(alloc, rule, rows)?;
     let place = first_past(alloc, limit, &spans)?;
+    Ok(key_at(rule, rows, place))
+}
+
+/// The first of the keys that rows name which have a number that none of some others covers, in their group.
+pub(crate) fn first_bare<R, S, T: Grouped<R>, U: Grouped<S>>(
+    alloc: Global,
+    rule: &T,
+    rows: &[R],
+    other_rule: &U,
+    others: &[S],
+) -> Result<Option<Key>, NoMemory>
+    requires { IsAscending (λ a b. is_sooner (T.name a) (T.name b) ≡ true) rows.now }
+    ensures { IfOk result (FirstBad (Names T.name (IsBare (T.extent rule.now) (U.extent other_rule.now) others.now) rows.now)) }
+{
+    let spans = spans_of(alloc, rule, rows)?;
+    let other_spans = spans_of(alloc, other_rule, others)?;
+    let place = first_gap(alloc, &spans, &other_spans)?;
     Ok(key_at(rule, rows, place))
 }

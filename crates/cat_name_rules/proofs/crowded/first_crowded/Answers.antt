@@ -1,5 +1,4 @@
-use Rattle.std.proofs.Common.{◌≡◌, map, ◌∙◌, subst, List, Ok, rules, tests}
-use Rattle.std.proofs.lemmas.Iterator.{YieldsList-from_slice, YieldsList-from_map, items_from_collect}
+use Rattle.std.proofs.Common.{map, ◌∙◌, subst, List}
 use Rattle.cat_spans.specs.Spans.{Extent, IsFirstPast}
 use Rattle.cat_name_rules.proofs.CrowdedLemmas.{first_named}
 use Rattle.cat_name_rules.proofs.crowded.first_crowded.Goals as goal
@@ -8,8 +7,6 @@ pub returns : goal.returns
 returns g c =
     let extent = g.T.Grouped.extent c.args.rule.now in
     let rows = c.args.rows.now in
-    let made : c.in_ok-spans.spans.items ≡ map extent rows =
-    items_from_collect {E = Unit {0}} (Ok c.in_ok-spans.spans) c.in_ok-spans.ensures.ran (YieldsList-from_map _ extent (YieldsList-from_slice rows cc) c.map.ensures.closure (λ x r q k. search (rules, tests))) in
     let P : List Extent → Type 0 = λ xs. IsFirstPast c.args.limit xs c.in_ok-place.place in
-    let found : IsFirstPast c.args.limit (map extent rows) c.in_ok-place.place = subst P (c.deref.ensures.value ∙ made) c.in_ok-place.ensures in
+    let found : IsFirstPast c.args.limit (map extent rows) c.in_ok-place.place = subst P (c.deref.ensures.value ∙ c.in_ok-spans.ensures) c.in_ok-place.ensures in
     rw c.key_at.ensures (first_named g.T.Grouped.name extent c.args.limit rows c.requires c.in_ok-place.place found)

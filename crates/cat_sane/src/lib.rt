@@ -1,0 +1,9 @@
+//! The first row of a catalogue that breaks a rule of a sane one: the twelve rules in their order.
+#![tactic(auto)]
+
+mod joined;
+mod sane;
+#[cfg(test)]
+mod tests;
+
+pub use sane::first_bad_row;
