@@ -1,0 +1,63 @@
+//! The time of `first_bad_row` over 99,904 rows.
+
+use crate::{catalogue, rows_of};
+use anyhow::Result;
+use cat_rows::CatRows;
+use cat_sane::first_bad_row;
+use std::alloc::Global;
+use std::rt::Clock;
+use std::time::Instant;
+
+/// Tables of the catalogue, and how often it is looked at.
+const TABLES: u64 = 1_350;
+
+const ROUNDS: u64 = 5;
+
+/// The nanoseconds since a moment.
+fn nanos_since(rt: &impl Clock, start: &Instant) -> Result<u64> {
+    let nanos = start.elapsed(rt)?.as_nanos();
+    Ok(u64::try_from(nanos).unwrap_or(u64::MAX))
+}
+
+/// Mixes a number, so that rows come in no order.
+fn mixed(number: u64) -> u64 {
+    let once = (number ^ (number >> 30)).wrapping_mul(0xbf58_476d_1ce4_e5b9);
+    once ^ (once >> 27)
+}
+
+/// How long a sort of so many rows by keys of three numbers takes.
+fn sort_time(rt: &impl Clock, alloc: Global, count: u64) -> Result<u64> {
+    let mut keys = Vec::new(alloc);
+    for place in 0..count {
+        keys.push([mixed(place), place, 0])?;
+    }
+    let start = Instant::now(rt)?;
+    keys.sort_unstable();
+    nanos_since(rt, &start)
+}
+
+/// How long `first_bad_row` takes.
+fn rules_time(rt: &impl Clock, alloc: Global, rows: &CatRows) -> Result<u64> {
+    let start = Instant::now(rt)?;
+    let _found = first_bad_row(alloc, rows)?;
+    nanos_since(rt, &start)
+}
+
+pub fn print_times<R: Clock + Print>(rt: &R, alloc: Global) -> Result<()> {
+    let adds = rows_of(alloc, TABLES)?;
+    let count = adds.len() as u64;
+    let rows = catalogue(alloc, adds)?;
+    let mut sort = u64::MAX;
+    let mut rules = u64::MAX;
+    for _ in 0..ROUNDS {
+        sort = sort.min(sort_time(rt, alloc, count)?);
+        rules = rules.min(rules_time(rt, alloc, &rows)?);
+    }
+    let ratio = rules / sort.max(1);
+    println!(rt;
+        "{count} rows: rules {} us, sort {} us, ratio {ratio}",
+        rules / 1_000,
+        sort / 1_000
+    )?;
+    Ok(())
+}
