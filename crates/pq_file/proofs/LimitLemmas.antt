@@ -3,7 +3,7 @@ use Rattle.std.proofs.Common.{◌≡◌, ℕ, ◌+◌, ◌-◌, ◌<◌, List, l
 use Rattle.std.specs.Prelude.{All, AllPairs}
 use Rattle.std.proofs.lemmas.List.{get_or-drop, get_or_read, length-drop}
 use Rattle.lake_types.specs.declared.sheet.SheetColumn.{SheetColumn}
-use Rattle.pq_file.specs.Sheets.{OtherField}
+use Rattle.pq_file.specs.Writable.{OtherField}
 
 -- where all pairs differ, a column differs from those behind it
 pub one_differs : (columns : List SheetColumn) (at : ℕ) (column : SheetColumn) → at < length columns → column ≡ get_or columns at column → AllPairs OtherField columns

@@ -19,8 +19,7 @@ use Rattle.pq_meta.specs.Spelling.{IsExtent, IsGroup, IsPlainChunk, total_of}
 use Rattle.pq_file.specs.Canonical.{canonical, chunk_at, chunks_at, cuts_of, footer_part, group_at, group_bytes, groups_at, groups_bytes, meta_column, meta_of, piece_bytes}
 use Rattle.pq_file.specs.Cuts.{cuts_behind, is_full, row_weight, row_weights}
 use Rattle.pq_file.specs.Frame.{mark}
-use Rattle.pq_file.specs.Sheets.{OtherField}
-use Rattle.pq_file.specs.Writable.{IsColumn, IsWritable}
+use Rattle.pq_file.specs.Writable.{IsColumn, IsWritable, OtherField}
 
 -- ---- cuts: as many rows as there are, and no more groups than rows
 

@@ -1,5 +1,5 @@
 -- Which sheets can be written.
-use Rattle.std.specs.Prelude.{◌≡◌, ◌≢◌, ◌≤◌, ℕ, List, length, All, AllPairs, IfSome, true, false}
+use Rattle.std.specs.Prelude.{◌≡◌, ◌≢◌, ◌≤◌, ℕ, List, ◌⊎◌, length, All, AllPairs, IfSome, None, true, false}
 use Rattle.std.specs.List.{sum_by}
 use Rattle.std.specs.Str.{IsUtf8}
 use Rattle.lake_types.specs.declared.sheet.Sheet.{Sheet}
@@ -10,7 +10,6 @@ use Rattle.lake_types.specs.declared.value.Value.{Value}
 use Rattle.lake_types.specs.declared.value.Value.TheVariants as value
 use Rattle.lake_types.specs.Fits.{fits}
 use Rattle.lake_types.specs.Weights.{weight}
-use Rattle.pq_file.specs.Sheets.{OtherField}
 
 -- a cell's own bytes, where it has any, are at most 16,777,216
 abbrev pub IsShort : Value → Type 0
@@ -33,6 +32,10 @@ pub record IsColumn (column : SheetColumn) : Type 0 where
 -- a column has a cell for each of so many rows
 abbrev pub HasCells : ℕ → SheetColumn → Type 0
 HasCells rows column = length column.cells ≡ rows
+
+-- two columns are not known by the same field id
+abbrev pub OtherField : SheetColumn → SheetColumn → Type 0
+OtherField a b = (a.field ≡ None) ⊎ (a.field ≢ b.field)
 
 -- the weight of a column's cells
 abbrev pub column_weight : SheetColumn → ℕ

@@ -4,8 +4,7 @@ ghost use Rattle.std.specs.Prelude.{◌≡◌, ◌≢◌, ◌↔◌, ◌≤◌, 
 ghost use Rattle.std.specs.List.{sum_by};
 ghost use Rattle.lake_types.specs.Weights as weights;
 ghost use Rattle.lake_types.specs.declared.value.Value.TheVariants.{Null};
-ghost use Rattle.pq_file.specs.Sheets.{OtherField};
-ghost use Rattle.pq_file.specs.Writable.{HasCells, IsCell, IsColumn, IsShort, IsWritable, column_weight};
+ghost use Rattle.pq_file.specs.Writable.{HasCells, IsCell, IsColumn, IsShort, IsWritable, OtherField, column_weight};
 
 use lake_types::{ColType, Sheet, SheetColumn, Value, fits, weight};
 

@@ -1,6 +1,6 @@
 use Rattle.std.proofs.Common.{refl, arith}
 use Rattle.std.specs.Prelude.{All}
-use Rattle.pq_file.specs.Sheets.{OtherField}
+use Rattle.pq_file.specs.Writable.{OtherField}
 use Rattle.pq_file.proofs.LimitLemmas.{all_differ, one_differs}
 use Rattle.pq_file.proofs.limits.fields_differ.Goals as goal
 

@@ -1,7 +1,7 @@
 use Rattle.std.proofs.Common.{ℕ, ◌+◌, ◌<◌, drop}
 use Rattle.std.specs.Prelude.{All}
 use Rattle.lake_types.specs.declared.sheet.SheetColumn.{SheetColumn}
-use Rattle.pq_file.specs.Sheets.{OtherField}
+use Rattle.pq_file.specs.Writable.{OtherField}
 use Rattle.std.proofs.Common.{get_or}
 use Rattle.pq_file.proofs.limits.fields_differ.Given as goal
 

@@ -3,8 +3,7 @@ use Rattle.std.specs.Prelude.{All, AllPairs}
 use Rattle.std.specs.List.{sum_by}
 use Rattle.lake_types.specs.declared.sheet.Sheet.{Sheet}
 use Rattle.lake_types.specs.declared.sheet.SheetColumn.{SheetColumn}
-use Rattle.pq_file.specs.Sheets.{OtherField}
-use Rattle.pq_file.specs.Writable.{HasCells, IsColumn, column_weight}
+use Rattle.pq_file.specs.Writable.{HasCells, IsColumn, OtherField, column_weight}
 use Rattle.pq_file.proofs.limits.is_writable.Goals as goal
 
 pub returns-then-is_small : goal.returns-then-is_small
