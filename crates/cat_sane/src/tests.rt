@@ -234,12 +234,8 @@ fn add_further(alloc: Global, adds: &mut CatRowList, further: Further) -> Result
     Ok(())
 }
 
-fn catalogue(alloc: Global, plan: Plan) -> Result<CatRows, NoMemory> {
-    let mut adds = Listed::new(alloc);
-    add_history(alloc, &mut adds, plan)?;
-    add_changes(alloc, &mut adds, plan)?;
-    add_table(alloc, &mut adds, plan)?;
-    add_further(alloc, &mut adds, plan.further)?;
+/// The catalogue of these rows.
+fn stored(alloc: Global, adds: CatRowList) -> Result<CatRows, NoMemory> {
     let batch = Batch {
         removes: Listed::new(alloc),
         ends: Listed::new(alloc),
@@ -250,6 +246,15 @@ fn catalogue(alloc: Global, plan: Plan) -> Result<CatRows, NoMemory> {
         apply_batch(alloc, &mut rows, &batch)?;
     }
     Ok(rows)
+}
+
+fn catalogue(alloc: Global, plan: Plan) -> Result<CatRows, NoMemory> {
+    let mut adds = Listed::new(alloc);
+    add_history(alloc, &mut adds, plan)?;
+    add_changes(alloc, &mut adds, plan)?;
+    add_table(alloc, &mut adds, plan)?;
+    add_further(alloc, &mut adds, plan.further)?;
+    stored(alloc, adds)
 }
 
 /// One change of a sane catalogue, and what is told of it.
@@ -272,6 +277,24 @@ fn is_told(alloc: Global, case: Case) -> Result<bool, NoMemory> {
         ),
         None => Ok(false),
     }
+}
+
+/// The rows of a new lake.
+fn snapshot_0(alloc: Global) -> Result<CatRows, NoMemory> {
+    let mut adds = Listed::new(alloc);
+    adds.push(layout(alloc, SANE)?)?;
+    adds.push(snapshot(0, 1))?;
+    adds.push(changes(alloc, 0, "created_schema:\"main\"")?)?;
+    adds.push(schema(alloc, SANE)?)?;
+    stored(alloc, adds)
+}
+
+#[test]
+fn snapshot_0_breaks_no_rule(rt: HostRuntime) -> Result<(), Fail> {
+    let rows = snapshot_0(rt.alloc())?;
+    assert_eq!(rt; rows.schema().len(), 1);
+    assert_eq!(rt; first_bad_row(rt.alloc(), &rows)?.is_none(), true);
+    Ok(())
 }
 
 #[test]
