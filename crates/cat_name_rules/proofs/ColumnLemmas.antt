@@ -18,7 +18,8 @@ use Rattle.cat_rules.specs.First.{FirstBad, Holds}
 use Rattle.cat_rules.specs.History.{IsMissing}
 use Rattle.cat_rules.specs.Intervals.{kept_of}
 use Rattle.cat_rules.specs.Lookups.{HasRow}
-use Rattle.cat_rules.specs.Places.{place, of_column}
+use Rattle.cat_rows.specs.Places.{place}
+use Rattle.cat_rules.specs.Places.{of_column}
 use Rattle.cat_rules.specs.Rows.{SomeOf, Names, AtSome}
 use Rattle.cat_rules.proofs.DatedLemmas.{AreDated, found_dated}
 use Rattle.cat_rules.proofs.FirstLemmas.{first_like, SomeOf_like}

@@ -7,7 +7,8 @@ use Rattle.cat_tables.specs.Table.{IsAscending}
 use Rattle.cat_tables.proofs.PlaceLemmas.{less_is}
 use Rattle.cat_rows.specs.declared.batch.Key.{Key}
 use Rattle.cat_rules.specs.First.{FirstBad}
-use Rattle.cat_rules.specs.Places.{place, is_sooner}
+use Rattle.cat_rows.specs.Places.{place}
+use Rattle.cat_rules.specs.Places.{is_sooner}
 use Rattle.cat_rules.specs.Rows.{SomeOf, Names}
 use Rattle.cat_rules.proofs.FirstLemmas.{ascends_like}
 use Rattle.cat_spans.specs.Spans.{Extent, HasGap, IsFirstGap, IsFirstPast, IsFirstRowPast}

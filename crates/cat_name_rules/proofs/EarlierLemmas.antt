@@ -15,7 +15,7 @@ use Rattle.cat_rows.specs.declared.batch.Key.{Key}
 use Rattle.cat_rules.specs.First.{FirstBad, Holds}
 use Rattle.cat_rules.specs.History.{IsMissing}
 use Rattle.cat_rules.specs.Intervals.{kept_of}
-use Rattle.cat_rules.specs.Places.{place}
+use Rattle.cat_rows.specs.Places.{place}
 use Rattle.cat_rules.specs.Rows.{SomeOf, Names}
 use Rattle.cat_rules.specs.Sight.{AreSeen}
 use Rattle.cat_rules.proofs.DatedLemmas.{AreDated}

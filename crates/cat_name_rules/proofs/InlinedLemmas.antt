@@ -7,7 +7,8 @@ use Rattle.cat_rows.specs.Tables.{Tables}
 use Rattle.cat_rows.specs.declared.batch.Key.{Key}
 use Rattle.cat_rows.specs.declared.inlined.InlinedRow.{InlinedRow}
 use Rattle.cat_rules.specs.First.{FirstBad}
-use Rattle.cat_rules.specs.Places.{place, of_inlined}
+use Rattle.cat_rows.specs.Places.{place}
+use Rattle.cat_rules.specs.Places.{of_inlined}
 use Rattle.cat_rules.specs.Rows.{Names}
 use Rattle.cat_rules.proofs.FirstLemmas.{first_like, SomeOf_like}
 use Rattle.cat_spans.specs.Spans.{is_under}

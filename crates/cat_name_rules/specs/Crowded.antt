@@ -3,7 +3,7 @@ use Rattle.std.specs.Prelude.{ℕ, List, map, Option, Some, None}
 use Rattle.std.specs.List.{slice_get}
 use Rattle.std.specs.Option.{option_map}
 use Rattle.cat_rows.specs.declared.batch.Key.{Key}
-use Rattle.cat_rules.specs.Places.{place}
+use Rattle.cat_rows.specs.Places.{place}
 use Rattle.cat_spans.specs.Spans.{Extent, HasGap, IsRowPast}
 
 -- The row covers a number that as many sooner rows of its group cover as may.

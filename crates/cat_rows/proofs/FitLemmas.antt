@@ -13,7 +13,8 @@ use Rattle.cat_tables.proofs.RowLemmas.{LacksKey-row_of, row_of-put, is_some-row
 use Rattle.cat_rows.specs.Batches.{added, removed, ended, ended_row, key_of, holds, is_open, AllDiffer, Fits}
 use Rattle.cat_rows.specs.Keys.{metadata_key, snapshot_key, snapshot_changes_key, schema_key, table_key, column_key, data_file_key, delete_file_key, file_column_stats_key, table_stats_key, inlined_row_key, scheduled_file_key}
 use Rattle.cat_rows.specs.Validities.{schema_validity, schema_laws, table_validity, table_laws, column_validity, column_laws, data_file_validity, data_file_laws, delete_file_validity, delete_file_laws, inlined_row_validity, inlined_row_laws}
-use Rattle.cat_rows.specs.Steps.{IsFresh, AreFresh, parts, is_same, is_among, has_parts, all_differ, rises, passes}
+use Rattle.cat_rows.specs.Places.{place}
+use Rattle.cat_rows.specs.Steps.{IsFresh, AreFresh, is_same, is_among, has_place, all_differ, passes}
 use Rattle.cat_rows.specs.Tables.{Tables}
 use Rattle.cat_rows.specs.declared.batch.Batch.{Batch}
 use Rattle.cat_rows.specs.declared.batch.CatRow.{CatRow}
@@ -86,28 +87,28 @@ AreFresh-fits t b fits =
 
 pub ruleset fitting = (AreFresh-fits)
 
--- ---- keys are told apart by their parts
+-- ---- keys are told apart by their places
 
-same_parts : (k l : Key) → parts k ≡ parts l → k ≡ l
-same_parts (key.Metadata a) (key.Metadata x) e = cc
-same_parts (key.Snapshot a) (key.Snapshot x) e = cc
-same_parts (key.SnapshotChanges a) (key.SnapshotChanges x) e = cc
-same_parts (key.Schema a) (key.Schema x) e = cc
-same_parts (key.Table a) (key.Table x) e = cc
-same_parts (key.Column a b c) (key.Column x y z) e = cc
-same_parts (key.DataFile a) (key.DataFile x) e = cc
-same_parts (key.DeleteFile a) (key.DeleteFile x) e = cc
-same_parts (key.FileColumnStats a b) (key.FileColumnStats x y) e = cc
-same_parts (key.TableStats a) (key.TableStats x) e = cc
-same_parts (key.Inlined a b c) (key.Inlined x y z) e = cc
-same_parts (key.ScheduledFile a) (key.ScheduledFile x) e = cc
-same_parts k l e = let rank : slice_index (parts k) 0 ≡ slice_index (parts l) 0 = ap (λ p. slice_index p 0) e in absurd (omega (arith, rank))
+same_place : (k l : Key) → place k ≡ place l → k ≡ l
+same_place (key.Metadata a) (key.Metadata x) e = cc
+same_place (key.Snapshot a) (key.Snapshot x) e = cc
+same_place (key.SnapshotChanges a) (key.SnapshotChanges x) e = cc
+same_place (key.Schema a) (key.Schema x) e = cc
+same_place (key.Table a) (key.Table x) e = cc
+same_place (key.Column a b c) (key.Column x y z) e = cc
+same_place (key.DataFile a) (key.DataFile x) e = cc
+same_place (key.DeleteFile a) (key.DeleteFile x) e = cc
+same_place (key.FileColumnStats a b) (key.FileColumnStats x y) e = cc
+same_place (key.TableStats a) (key.TableStats x) e = cc
+same_place (key.Inlined a b c) (key.Inlined x y z) e = cc
+same_place (key.ScheduledFile a) (key.ScheduledFile x) e = cc
+same_place k l e = let rank : slice_index (place k) 0 ≡ slice_index (place l) 0 = ap (λ p. slice_index p 0) e in absurd (omega (arith, rank))
 
 is_same-itself : (k : Key) → is_same k k ≡ true
-is_same-itself k = is_eq-slice_cmp (parts k) (parts k) ∙ (bytes_eq-Decides (parts k) (parts k)).1 refl
+is_same-itself k = is_eq-slice_cmp (place k) (place k) ∙ (bytes_eq-Decides (place k) (place k)).1 refl
 
 same_is : (k l : Key) → is_same k l ≡ true → k ≡ l
-same_is k l h = same_parts k l (key_eq (parts k) (parts l) h)
+same_is k l h = same_place k l (key_eq (place k) (place l) h)
 
 pub Decides-is_same : (k l : Key) → Decides (is_same k l) (k ≡ l)
 Decides-is_same k l = (same_is k l, λ e. ap (is_same k) (sym e) ∙ is_same-itself k)
@@ -126,9 +127,9 @@ Decides-none (l ∷ keys) k = go (is_same l k) (is_among keys k) (Decides-is_sam
     go true a same rest = (λ e. absurd (true≢false (sym e)), λ h. absurd (h.0 (same.0 refl)))
     go false a same rest = (λ e. (λ q. true≢false (sym (same.1 q)), rest.0 e), λ h. rest.1 h.1)
 
-Decides-lacks : {X : Type 0} (key_in : X → Key) (k : Key) (xs : List X) → Decides (not (has_parts key_in xs (parts k))) (AllByRecursion (λ l. k ≢ l) (map key_in xs))
+Decides-lacks : {X : Type 0} (key_in : X → Key) (k : Key) (xs : List X) → Decides (not (has_place key_in xs (place k))) (AllByRecursion (λ l. k ≢ l) (map key_in xs))
 Decides-lacks key_in k [] = (λ e. tt, λ h. refl)
-Decides-lacks key_in k (x ∷ xs) = go (is_same (key_in x) k) (has_parts key_in xs (parts k)) (Decides-is_same (key_in x) k) (Decides-lacks key_in k xs)
+Decides-lacks key_in k (x ∷ xs) = go (is_same (key_in x) k) (has_place key_in xs (place k)) (Decides-is_same (key_in x) k) (Decides-lacks key_in k xs)
   where
     go : (s a : Bool) → Decides s (key_in x ≡ k) → Decides (not a) (AllByRecursion (λ m. k ≢ m) (map key_in xs)) → Decides (not (s || a)) ((k ≢ key_in x) × AllByRecursion (λ m. k ≢ m) (map key_in xs))
     go true a same rest = (λ e. absurd (true≢false (sym e)), λ h. absurd (h.0 (sym (same.0 refl))))
@@ -136,7 +137,7 @@ Decides-lacks key_in k (x ∷ xs) = go (is_same (key_in x) k) (has_parts key_in 
 
 Decides-differ : {X : Type 0} (key_in : X → Key) (xs : List X) → Decides (all_differ key_in xs) (AllDiffer (map key_in xs))
 Decides-differ key_in [] = (λ e. tt, λ h. refl)
-Decides-differ key_in (x ∷ xs) = Decides-and (not (has_parts key_in xs (parts (key_in x)))) (all_differ key_in xs) (Decides-lacks key_in (key_in x) xs) (Decides-differ key_in xs)
+Decides-differ key_in (x ∷ xs) = Decides-and (not (has_place key_in xs (place (key_in x)))) (all_differ key_in xs) (Decides-lacks key_in (key_in x) xs) (Decides-differ key_in xs)
 
 map_itself : {X : Type 0} (xs : List X) → map (λ x. x) xs ≡ xs
 map_itself [] = refl
@@ -244,11 +245,11 @@ Decides-passes t b =
 
 -- one turn of the loop over a list
 module _ {X : Type 0} (key_in : X → Key) where
-  turn : (xs : List X) (i : ℕ) (x : X) → i < length xs → x ≡ get_or xs i x → all_differ key_in (drop i xs) ≡ (not (has_parts key_in (drop (i + 1) xs) (parts (key_in x))) && all_differ key_in (drop (i + 1) xs))
-  turn xs i x within is = at_drop_more (all_differ key_in) xs i x within ∙ ap (λ y. not (has_parts key_in (drop (i + 1) xs) (parts (key_in y))) && all_differ key_in (drop (i + 1) xs)) (sym is)
+  turn : (xs : List X) (i : ℕ) (x : X) → i < length xs → x ≡ get_or xs i x → all_differ key_in (drop i xs) ≡ (not (has_place key_in (drop (i + 1) xs) (place (key_in x))) && all_differ key_in (drop (i + 1) xs))
+  turn xs i x within is = at_drop_more (all_differ key_in) xs i x within ∙ ap (λ y. not (has_place key_in (drop (i + 1) xs) (place (key_in y))) && all_differ key_in (drop (i + 1) xs)) (sym is)
 
-  pub differ_stops : (xs : List X) (i : ℕ) (x : X) → i < length xs → x ≡ get_or xs i x → has_parts key_in (drop (i + 1) xs) (parts (key_in x)) ≡ true → all_differ key_in (drop i xs) ≡ all_differ key_in xs → false ≡ all_differ key_in xs
+  pub differ_stops : (xs : List X) (i : ℕ) (x : X) → i < length xs → x ≡ get_or xs i x → has_place key_in (drop (i + 1) xs) (place (key_in x)) ≡ true → all_differ key_in (drop i xs) ≡ all_differ key_in xs → false ≡ all_differ key_in xs
   differ_stops xs i x within is again same = sym (ap (λ b. not b && all_differ key_in (drop (i + 1) xs)) again) ∙ sym (turn xs i x within is) ∙ same
 
-  pub differ_goes_on : (xs : List X) (i : ℕ) (x : X) → i < length xs → x ≡ get_or xs i x → has_parts key_in (drop (i + 1) xs) (parts (key_in x)) ≡ false → all_differ key_in (drop i xs) ≡ all_differ key_in xs → all_differ key_in (drop (i + 1) xs) ≡ all_differ key_in xs
+  pub differ_goes_on : (xs : List X) (i : ℕ) (x : X) → i < length xs → x ≡ get_or xs i x → has_place key_in (drop (i + 1) xs) (place (key_in x)) ≡ false → all_differ key_in (drop i xs) ≡ all_differ key_in xs → all_differ key_in (drop (i + 1) xs) ≡ all_differ key_in xs
   differ_goes_on xs i x within is other same = sym (ap (λ b. not b && all_differ key_in (drop (i + 1) xs)) other) ∙ sym (turn xs i x within is) ∙ same

@@ -1,18 +1,18 @@
 -- What the steps of a batch say of each other.
-use Rattle.std.specs.Prelude.{◌≤◌, ◌&&◌, ◌||◌, ℕ, Bool, true, false, not, List, [], ◌∷◌}
+use Rattle.std.specs.Prelude.{◌≤◌, ◌&&◌, ◌||◌, ℕ, Bool, true, not, List, [], ◌∷◌}
 use Rattle.std.specs.List.{list_all, list_any, slice_index}
 use Rattle.std.specs.Ordering.{is_eq, is_lt}
 use Rattle.cat_tables.specs.Table.{LacksKey, key_cmp}
 use Rattle.cat_rows.specs.Keys.{metadata_key, snapshot_key, snapshot_changes_key, schema_key, table_key, column_key, data_file_key, delete_file_key, file_column_stats_key, table_stats_key, inlined_row_key, scheduled_file_key}
 use Rattle.cat_rows.specs.Batches.{added, count_in, holds, is_open, key_of}
+use Rattle.cat_rows.specs.Places.{place}
 use Rattle.cat_rows.specs.Tables.{Tables}
 use Rattle.cat_rows.specs.declared.content.CatRows.{CatRows}
 use Rattle.cat_rows.specs.declared.batch.CatRow.{CatRow}
 use Rattle.cat_rows.specs.declared.batch.CatRow.TheVariants as row
 use Rattle.cat_rows.specs.declared.batch.Key.{Key}
-use Rattle.cat_rows.specs.declared.batch.Key.TheVariants as key
-use Rattle.cat_rows.specs.declared.fitting.KeyRef.{KeyRef}
-use Rattle.cat_rows.specs.declared.fitting.KeyRef.TheVariants as key_ref
+use Rattle.cat_rows.specs.declared.key_order.KeyRef.{KeyRef}
+use Rattle.cat_rows.specs.declared.key_order.KeyRef.TheVariants as key_ref
 use Rattle.cat_rows.specs.declared.cat_table.CatTable.TheVariants as cat_table
 
 -- no row has the key of this one
@@ -65,59 +65,44 @@ with_row old new (row.TableStats r) = record old { table_stats = new.table_stats
 with_row old new (row.Inlined r) = record old { inlined_row = new.inlined_row }
 with_row old new (row.ScheduledFile r) = record old { scheduled_file = new.scheduled_file }
 
--- What a key is compared by: the place of its table, and the numbers of its columns or the bytes of its text.
-abbrev pub parts : Key → List ℕ
-parts (key.Metadata a) = 0 ∷ a
-parts (key.Snapshot a) = 1 ∷ a ∷ []
-parts (key.SnapshotChanges a) = 2 ∷ a ∷ []
-parts (key.Schema a) = 3 ∷ a ∷ []
-parts (key.Table a) = 4 ∷ a ∷ []
-parts (key.Column a b c) = 5 ∷ a ∷ b ∷ c ∷ []
-parts (key.DataFile a) = 6 ∷ a ∷ []
-parts (key.DeleteFile a) = 7 ∷ a ∷ []
-parts (key.FileColumnStats a b) = 8 ∷ a ∷ b ∷ []
-parts (key.TableStats a) = 9 ∷ a ∷ []
-parts (key.Inlined a b c) = 10 ∷ a ∷ b ∷ c ∷ []
-parts (key.ScheduledFile a) = 11 ∷ a
-
--- the same of a key where it stands
-abbrev pub ref_parts : KeyRef → List ℕ
-ref_parts (key_ref.Metadata a) = 0 ∷ a.now
-ref_parts (key_ref.Snapshot a) = 1 ∷ a ∷ []
-ref_parts (key_ref.SnapshotChanges a) = 2 ∷ a ∷ []
-ref_parts (key_ref.Schema a) = 3 ∷ a ∷ []
-ref_parts (key_ref.Table a) = 4 ∷ a ∷ []
-ref_parts (key_ref.Column a b c) = 5 ∷ a ∷ b ∷ c ∷ []
-ref_parts (key_ref.DataFile a) = 6 ∷ a ∷ []
-ref_parts (key_ref.DeleteFile a) = 7 ∷ a ∷ []
-ref_parts (key_ref.FileColumnStats a b) = 8 ∷ a ∷ b ∷ []
-ref_parts (key_ref.TableStats a) = 9 ∷ a ∷ []
-ref_parts (key_ref.Inlined a b c) = 10 ∷ a ∷ b ∷ c ∷ []
-ref_parts (key_ref.ScheduledFile a) = 11 ∷ a.now
+-- the place of a key where it stands
+abbrev pub ref_place : KeyRef → List ℕ
+ref_place (key_ref.Metadata a) = 0 ∷ a.now
+ref_place (key_ref.Snapshot a) = 1 ∷ a ∷ []
+ref_place (key_ref.SnapshotChanges a) = 2 ∷ a ∷ []
+ref_place (key_ref.Schema a) = 3 ∷ a ∷ []
+ref_place (key_ref.Table a) = 4 ∷ a ∷ []
+ref_place (key_ref.Column a b c) = 5 ∷ a ∷ b ∷ c ∷ []
+ref_place (key_ref.DataFile a) = 6 ∷ a ∷ []
+ref_place (key_ref.DeleteFile a) = 7 ∷ a ∷ []
+ref_place (key_ref.FileColumnStats a b) = 8 ∷ a ∷ b ∷ []
+ref_place (key_ref.TableStats a) = 9 ∷ a ∷ []
+ref_place (key_ref.Inlined a b c) = 10 ∷ a ∷ b ∷ c ∷ []
+ref_place (key_ref.ScheduledFile a) = 11 ∷ a.now
 
 abbrev pub ref_rank : KeyRef → ℕ
-ref_rank k = slice_index (ref_parts k) 0
+ref_rank k = slice_index (ref_place k) 0
 
 abbrev pub is_same : Key → Key → Bool
-is_same k l = is_eq (key_cmp (parts k) (parts l))
+is_same k l = is_eq (key_cmp (place k) (place l))
 
--- whether one of these has a key of these parts
-abbrev pub has_parts : {X : Type 0} → (X → Key) → List X → List ℕ → Bool
-has_parts key_in xs k = list_any (λ x. is_eq (key_cmp (parts (key_in x)) k)) xs
+-- whether one of these has a key of these place
+abbrev pub has_place : {X : Type 0} → (X → Key) → List X → List ℕ → Bool
+has_place key_in xs k = list_any (λ x. is_eq (key_cmp (place (key_in x)) k)) xs
 
 -- whether one of these keys is this one
 abbrev pub is_among : List Key → Key → Bool
-is_among keys k = has_parts (λ l. l) keys (parts k)
+is_among keys k = has_place (λ l. l) keys (place k)
 
 abbrev pub all_differ : {X : Type 0} → (X → Key) → List X → Bool
 all_differ key_in [] = true
-all_differ key_in (x ∷ xs) = not (has_parts key_in xs (parts (key_in x))) && all_differ key_in xs
+all_differ key_in (x ∷ xs) = not (has_place key_in xs (place (key_in x))) && all_differ key_in xs
 
 -- whether each key is below the next one
 abbrev pub rises : {X : Type 0} → (X → Key) → List X → Bool
 rises key_in [] = true
 rises key_in (x ∷ []) = true
-rises key_in (x ∷ y ∷ xs) = is_lt (key_cmp (parts (key_in x)) (parts (key_in y))) && rises key_in (y ∷ xs)
+rises key_in (x ∷ y ∷ xs) = is_lt (key_cmp (place (key_in x)) (place (key_in y))) && rises key_in (y ∷ xs)
 
 -- the test of a batch, part by part
 abbrev pub all_there : Tables → List Key → Bool

@@ -9,9 +9,8 @@ mod files;
 mod fitting;
 mod history;
 mod inlined;
+mod key_order;
 mod schemas;
-#[cfg(test)]
-mod tests;
 
 pub use applying::{apply_batch, apply_reserved, reserve_batch};
 pub use batch::{Batch, CatRow, CatRowList, EndList, Key, KeyList};

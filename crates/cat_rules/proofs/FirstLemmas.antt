@@ -9,7 +9,8 @@ use Rattle.cat_tables.specs.Table.{IsAscending, key_cmp}
 use Rattle.cat_tables.proofs.PlaceLemmas.{less_is}
 use Rattle.cat_rows.specs.declared.batch.Key.{Key}
 use Rattle.cat_rules.specs.First.{FirstBad, sooner, told}
-use Rattle.cat_rules.specs.Places.{is_sooner, place}
+use Rattle.cat_rows.specs.Places.{place}
+use Rattle.cat_rules.specs.Places.{is_sooner}
 use Rattle.cat_rules.specs.Rows.{SomeOf, Names, NamesIf}
 
 -- ---- the order of keys

@@ -1,7 +1,8 @@
--- The place of a row among all rows: by the order of the tables, and then by key.
-use Rattle.std.specs.Prelude.{ℕ, Bool, List, [], ◌∷◌}
+-- Which of two rows stands before the other among all rows of a catalogue, and the key of each row.
+use Rattle.std.specs.Prelude.{Bool}
 use Rattle.std.specs.Ordering.{is_lt}
 use Rattle.cat_tables.specs.Table.{key_cmp}
+use Rattle.cat_rows.specs.Places.{place}
 use Rattle.cat_rows.specs.declared.batch.Key.{Key}
 use Rattle.cat_rows.specs.declared.batch.Key.TheVariants as key
 use Rattle.cat_rows.specs.declared.history.MetadataRow.{MetadataRow}
@@ -16,39 +17,6 @@ use Rattle.cat_rows.specs.declared.files.FileColumnStatsRow.{FileColumnStatsRow}
 use Rattle.cat_rows.specs.declared.files.TableStatsRow.{TableStatsRow}
 use Rattle.cat_rows.specs.declared.inlined.InlinedRow.{InlinedRow}
 use Rattle.cat_rows.specs.declared.files.ScheduledFileRow.{ScheduledFileRow}
-
--- the place of its table among the tables
-abbrev pub rank : Key → ℕ
-rank (key.Metadata a) = 0
-rank (key.Snapshot a) = 1
-rank (key.SnapshotChanges a) = 2
-rank (key.Schema a) = 3
-rank (key.Table a) = 4
-rank (key.Column a b c) = 5
-rank (key.DataFile a) = 6
-rank (key.DeleteFile a) = 7
-rank (key.FileColumnStats a b) = 8
-rank (key.TableStats a) = 9
-rank (key.Inlined a b c) = 10
-rank (key.ScheduledFile a) = 11
-
--- the key's columns, or the bytes of its text
-abbrev pub parts : Key → List ℕ
-parts (key.Metadata a) = a
-parts (key.Snapshot a) = a ∷ []
-parts (key.SnapshotChanges a) = a ∷ []
-parts (key.Schema a) = a ∷ []
-parts (key.Table a) = a ∷ []
-parts (key.Column a b c) = a ∷ b ∷ c ∷ []
-parts (key.DataFile a) = a ∷ []
-parts (key.DeleteFile a) = a ∷ []
-parts (key.FileColumnStats a b) = a ∷ b ∷ []
-parts (key.TableStats a) = a ∷ []
-parts (key.Inlined a b c) = a ∷ b ∷ c ∷ []
-parts (key.ScheduledFile a) = a
-
-abbrev pub place : Key → List ℕ
-place k = rank k ∷ parts k
 
 abbrev pub is_sooner : Key → Key → Bool
 is_sooner j k = is_lt (key_cmp (place j) (place k))
