@@ -1,5 +1,5 @@
 #!/usr/bin/env python3
-"""Runs what README.md and docs/GUIDE.md show through the program, compares the replies, and breaks its streams.
+"""Runs what README.md and docs/GUIDE.md show through the program, compares the replies, and tries its words and streams.
 
 In GUIDE.md each table with the head `| script | reply |` is a script and its replies, line by line; in README.md the
 block behind "The first one prints" is the output for examples/first_path.script.
@@ -37,6 +37,14 @@ def readme_example():
     return text_of("examples/first_path.script"), re.sub(r"^    ", "", shown, flags=re.M)
 
 
+def check_words():
+    """Any word, one that is no text included, is answered by the usage line and status 2, and nothing is read."""
+    for word in (b"--help", b"\xff"):
+        refused = subprocess.run([os.path.join(TOP, "lake").encode(), word], input=b"1 BEGIN\n", capture_output=True)
+        if refused.returncode != 2 or not re.fullmatch(rb"! usage: lake [^\n]*\n", refused.stdout):
+            sys.exit(f"the word {word} ends with {refused.returncode} and {refused.stdout}")
+
+
 def check_streams():
     """An input that can't be read ends with status 3, and an output that takes nothing with 4."""
     folder = os.open(TOP, os.O_RDONLY)
@@ -51,12 +59,14 @@ def check_streams():
 
 def main():
     examples = [*guide_examples(), readme_example()]
-    if len(examples) < 6:
-        sys.exit(f"only {len(examples)} examples were found in README.md and docs/GUIDE.md")
+    tables = len(re.findall(r"^\|\s*script\b", text_of("docs/GUIDE.md"), re.M))
+    if tables == 0 or len(examples) != tables + 1:
+        sys.exit(f"docs/GUIDE.md has {tables} tables of scripts, and {len(examples) - 1} of them were read")
     for script, replies in examples:
         found = written(script)
         if found != replies:
             sys.exit(f"the script\n{script}is answered\n{found}and the document says\n{replies}")
+    check_words()
     check_streams()
     print(f"{len(examples)} examples of README.md and docs/GUIDE.md are answered as they say")
 
