@@ -1,5 +1,5 @@
 -- The rules about counters: those in the statistics of tables, and those of the newest snapshot.
-use Rattle.std.specs.Prelude.{◌≡◌, ◌⊎◌, ◌^◌, ◌||◌, ℕ, Bool, true, not, Some, nat_le, nat_lt}
+use Rattle.std.specs.Prelude.{◌≡◌, ◌⊎◌, ◌^◌, ◌&&◌, ◌||◌, ℕ, Bool, true, not, Some, nat_le, nat_lt}
 use Rattle.cat_rows.specs.Batches.{holds}
 use Rattle.cat_rows.specs.Tables.{Tables}
 use Rattle.cat_rows.specs.declared.batch.Key.{Key}
@@ -23,9 +23,13 @@ stats_of r = key.TableStats r.table_id
 abbrev pub has_large_counter : TableStatsRow → Bool
 has_large_counter r = nat_lt last_id r.next_row_id || nat_lt last_field r.next_field_id
 
--- Each table has its row of statistics, with counters up to their last values.
+-- its table is there, and a counter is past its last value
+abbrev pub are_stats_large : Tables → TableStatsRow → Bool
+are_stats_large t r = holds t (key.Table r.table_id) && has_large_counter r
+
+-- Each table has its row of statistics, with counters up to their last values. Statistics without a table may be any.
 abbrev pub IsStatsBad : Tables → Key → Type 0
-IsStatsBad t k = NamesIf stats_of (λ r. not (holds t (stats_of r))) t.table k ⊎ NamesIf of_table_stats has_large_counter t.table_stats k
+IsStatsBad t k = NamesIf stats_of (λ r. not (holds t (stats_of r))) t.table k ⊎ NamesIf of_table_stats (are_stats_large t) t.table_stats k
 
 abbrev pub has_large_id : SnapshotRow → Bool
 has_large_id n = nat_lt last_id n.next_catalog_id || nat_lt last_id n.next_file_id

@@ -1,4 +1,5 @@
-//! The rules of a sane catalogue: for each of them the first row that breaks it.
+//! The first row that breaks a rule of a sane catalogue, for the rules about the layout, snapshots, intervals and
+//! counters, and what the rules of the other crates share.
 #![tactic(auto)]
 
 mod bad_row;

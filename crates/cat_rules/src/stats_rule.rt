@@ -1,6 +1,6 @@
 ghost use Rattle.std.specs.Prelude.{◌≡◌, ◌||◌, not};
 ghost use Rattle.cat_rows.specs.Batches.{holds, tables_of};
-ghost use Rattle.cat_rules.specs.Counters.{IsStatsBad, has_large_counter, stats_of};
+ghost use Rattle.cat_rules.specs.Counters.{IsStatsBad, are_stats_large, stats_of};
 ghost use Rattle.cat_rules.specs.First.{FirstBad};
 ghost use Rattle.cat_rules.specs.Places as places;
 
@@ -35,17 +35,20 @@ impl RowRule<TableRow> for LacksStats<'_> {
     }
 }
 
-/// A row of statistics with a counter past its last value is bad.
+/// The statistics of a table with a counter past its last value are bad.
 #[derive(Drop)]
-struct LargeCounter;
+struct LargeCounter<'a> {
+    rows: &'a CatRows,
+}
 
-impl RowRule<TableStatsRow> for LargeCounter {
-    ghost is_bad = { λ rule r. has_large_counter r };
+impl RowRule<TableStatsRow> for LargeCounter<'_> {
+    ghost is_bad = { λ rule r. are_stats_large (tables_of rule.rows.now) r };
 
     ghost name = { places.of_table_stats };
 
     fn judge(&self, row: &TableStatsRow) -> Option<Key> {
-        if row.next_row_id > LAST_ID || row.next_field_id > LAST_FIELD {
+        let is_large = row.next_row_id > LAST_ID || row.next_field_id > LAST_FIELD;
+        if self.rows.holds(&Key::Table(row.table_id)) && is_large {
             Some(Key::TableStats(row.table_id))
         } else {
             None
@@ -59,6 +62,6 @@ pub fn first_bad_stats(rows: &CatRows) -> Option<Key>
     ensures { FirstBad (IsStatsBad (tables_of rows.now)) result }
 {
     let missing = first_bad(&LacksStats { rows }, rows.table());
-    let large = first_bad(&LargeCounter, rows.table_stats());
+    let large = first_bad(&LargeCounter { rows }, rows.table_stats());
     sooner(missing, large)
 }
