@@ -16,8 +16,6 @@ mod order;
 mod readable;
 mod rule;
 mod stats_rule;
-#[cfg(test)]
-mod tests;
 
 pub use bad_row::BadRow;
 pub use checked::{CheckedRule, first_checked};
