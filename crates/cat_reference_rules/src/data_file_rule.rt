@@ -34,7 +34,7 @@ impl Refers for DataFileRow {
     }
 }
 
-/// Whether there is a number that a sum isn't below, a sum past the type's end being past all numbers.
+/// Whether a number is below a sum; a sum past the type's end is above all numbers.
 fn is_below_sum(number: u64, start: u64, count: u64) -> bool
     ensures { result ≡ nat_lt number (start + count) }
 {

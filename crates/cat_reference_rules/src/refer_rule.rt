@@ -67,7 +67,7 @@ impl<R: Refers> RowRule<R> for Lacking<'_> {
     }
 }
 
-/// A row is bad where what it refers to isn't seen wherever the row is.
+/// A row is bad where some kept snapshot sees it and not what it refers to.
 #[derive(Drop)]
 struct Outlasting<'a> {
     rows: &'a CatRows,
@@ -89,7 +89,8 @@ impl<R: Refers> RowRule<R> for Outlasting<'_> {
     }
 }
 
-/// The first row of some that has no match: what it refers to isn't there, or isn't seen wherever the row is.
+/// The first row of some that has no match: what it refers to isn't there, or some kept snapshot sees the row
+/// and not it.
 pub(crate) fn first_unmatched<R: Refers>(rows: &CatRows, kept: Kept, own: &[R]) -> Option<Key>
     ensures { FirstBad (IsUnmatchedBy (tables_of rows.now) R.validity R.Other.validity
         (R.other (tables_of rows.now)) R.other_name R.name own.now kept.first) result }

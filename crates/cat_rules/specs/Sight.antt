@@ -22,7 +22,7 @@ module _ {R S : Type 0} (t : Tables) (v : Validity R) (w : Validity S) where
   abbrev pub LacksOther : (R → Option S) → R → Type 0
   LacksOther other r = IsSeen t v r × (other r ≡ None)
 
-  -- the one that it refers to is there, and isn't seen wherever the row is
+  -- the one that it refers to is there, and some kept snapshot sees the row and not it
   abbrev pub MissesOther : (R → Option S) → R → Type 0
   MissesOther other r = (q : S) × (other r ≡ Some q) × IsSeenWithout r q
 
@@ -43,7 +43,7 @@ outlasts_other first v w r None = false
 outlasts_other first v w r (Some q) = outlasts first (v.begin r) (v.end r) (w.begin q) (w.end q)
 
 module _ {R S : Type 0} (t : Tables) (v : Validity R) (w : Validity S) (other : R → Option S) (other_name name : R → Key) (rows : List R) where
-  -- what a row refers to isn't there, which names that; or it isn't seen wherever the row is, which names the row
+  -- what a row refers to isn't there, which names that; or some kept snapshot sees the row and not it, which names the row
   abbrev pub IsUnmatched : Key → Type 0
   IsUnmatched k = Names other_name (LacksOther t v w other) rows k ⊎ Names name (MissesOther t v w other) rows k
 

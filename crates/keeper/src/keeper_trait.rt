@@ -1,4 +1,4 @@
-ghost use Rattle.std.specs.Prelude.{◌≡◌, ℕ, Option, IfSome, IfOk};
+ghost use Rattle.std.specs.Prelude.{◌≡◌, ℕ, Option, IfSome, IfOk, IsErrOf};
 ghost use Rattle.cat_rows.specs.Batches.{tables_of};
 ghost use Rattle.cat_rows.specs.Tables.{Tables};
 ghost use Rattle.keeper.specs.Calls.{HasCause, Same, FitsContent, Offers, content_after};
@@ -34,7 +34,9 @@ pub trait Keeper {
         ensures cause { HasCause (faults self.old) (faults self.new) result }
 
         ensures content { content self.new ≡ content_after result batch.now (content self.old) }
-        ensures images { IfSome (content self.old) (λ told. Offers result batch.now told (images self.old) (images self.new)) };
+        ensures images { IfSome (content self.old) (λ told. Offers result batch.now told (images self.old) (images self.new)) }
+        // Also where nothing is told.
+        ensures memory { IsErrOf result KeepNo.Memory → Same (images self.old) (images self.new) };
 
     ghost tells_an_image: { (keeper : Self) → IfSome (content keeper) (images keeper) };
 }

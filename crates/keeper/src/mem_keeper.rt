@@ -82,6 +82,7 @@ impl Keeper for MemKeeper {
 
         ensures content { Some self.new.content ≡ content_after result batch.now (Some self.old.content) }
         ensures images { Offers result batch.now self.old.content (IsImage self.old) (IsImage self.new) }
+        ensures memory { IsErrOf result KeepNo.Memory → Same (IsImage self.old) (IsImage self.new) }
     {
         if self.injector.count_call().is_err() {
             // Where memory is wanting for the batch that failed, no crash finds it.

@@ -70,6 +70,7 @@ impl Keeper for SureKeeper {
 
         ensures content { Some self.new ≡ content_after result batch.now (Some self.old) }
         ensures images { Offers result batch.now self.old (λ image. image ≡ self.old) (λ image. image ≡ self.new) }
+        ensures memory { IsErrOf result KeepNo.Memory → Same (λ image. image ≡ self.old) (λ image. image ≡ self.new) }
     {
         apply_batch(alloc, &mut self.rows, batch)?;
         Ok(())
