@@ -15,8 +15,9 @@ use Rattle.pq_meta.specs.declared.drafts.GroupDraft.{GroupDraft}
 use Rattle.pq_meta.specs.declared.meta.FileMeta.{FileMeta}
 use Rattle.pq_meta.specs.declared.meta.MetaColumn.{MetaColumn}
 use Rattle.pq_meta.specs.Drafts.{element_part, no_element, group_part, no_group, footer_part, no_footer}
+use Rattle.pq_meta.specs.Consistency.{IsNamed}
 use Rattle.pq_meta.specs.Footers.{meta_of, footer_of}
-use Rattle.pq_meta.specs.Spelling.{stop, column_bytes, root_bytes, group_bytes, schema_bytes, footer_bytes, HasText, IsColumn, IsWritable}
+use Rattle.pq_meta.specs.Spelling.{stop, column_bytes, root_bytes, group_bytes, schema_bytes, footer_bytes, IsColumn, IsWritable}
 use Rattle.pq_meta.proofs.FieldLemmas.{ReadsFields, ReadsValue, field_then, regrouped_read, stop_read, struct_read, structs_read, row_read, row_cons, begins_list}
 use Rattle.pq_meta.proofs.WrittenLemmas.{list_regrouped, count_back_64, element_of, root_of, group_draft_of, column_read, root_read, group_read}
 use Rattle.pq_meta.proofs.BackLemmas.{columns_back, groups_back, rows_back}
@@ -86,14 +87,14 @@ footer_read meta is =
     (λ k d lt. group_read meta.columns (get_or meta.groups k d) few is.columns (is.groups k d lt))))
     (stop_read footer_part (pos 4) (draft_of meta)))))))
 
-says_back : (meta : FileMeta) → IsWritable meta → All HasText meta.columns → meta_of (draft_of meta) ≡ Ok meta
+says_back : (meta : FileMeta) → IsWritable meta → All IsNamed meta.columns → meta_of (draft_of meta) ≡ Ok meta
 unfolding meta_of
 says_back meta is texts =
     rw (columns_back meta.columns is.fields texts)
     (rw (groups_back meta.columns meta.groups is.groups)
     (rw (rows_back meta.groups meta.num_rows is.rows is.most_rows) refl))
 
-pub footer_back : (meta : FileMeta) → IsWritable meta → All HasText meta.columns → footer_of (footer_bytes meta) ≡ Ok meta
+pub footer_back : (meta : FileMeta) → IsWritable meta → All IsNamed meta.columns → footer_of (footer_bytes meta) ≡ Ok meta
 unfolding footer_of
 footer_back meta is texts =
     let bytes : List ℕ = footer_bytes meta in
@@ -103,5 +104,5 @@ footer_back meta is texts =
     rw read (says_back meta is texts)
 
 -- the same of bytes that are equal to what is written
-pub written_back : (meta : FileMeta) (bytes : List ℕ) → bytes ≡ footer_bytes meta → IsWritable meta → All HasText meta.columns → footer_of bytes ≡ Ok meta
+pub written_back : (meta : FileMeta) (bytes : List ℕ) → bytes ≡ footer_bytes meta → IsWritable meta → All IsNamed meta.columns → footer_of bytes ≡ Ok meta
 written_back meta bytes same is texts = rw same (footer_back meta is texts)

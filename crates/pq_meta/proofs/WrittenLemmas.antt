@@ -17,6 +17,7 @@ use Rattle.pq_meta.specs.declared.drafts.ChunkMetaDraft.{ChunkMetaDraft}
 use Rattle.pq_meta.specs.declared.meta.MetaColumn.{MetaColumn}
 use Rattle.pq_meta.specs.declared.meta.MetaGroup.{MetaGroup}
 use Rattle.pq_meta.specs.declared.meta.MetaChunk.{MetaChunk}
+use Rattle.pq_meta.specs.Consistency.{IsFieldId}
 use Rattle.pq_meta.specs.Drafts.{element_part, no_element, chunk_meta_part, no_chunk_meta, chunk_part, no_chunk, group_part, no_group}
 use Rattle.pq_meta.specs.Spelling.{stop, id_bytes, type_bytes, column_bytes, root_bytes, encodings_bytes, path_bytes, extent_bytes, chunk_meta_bytes, chunk_bytes, chunks_bytes, group_bytes, total_of, physical_of, converted_of, repetition_of, IsColumn, IsExtent, IsGroup, IsPlainChunk}
 use Rattle.pq_meta.proofs.FieldLemmas.{ReadsFields, ReadsValue, field_then, regrouped_read, stop_read, struct_read, structs_read, row_cons, row_nil, begins_list}
@@ -76,14 +77,14 @@ field_id_read : (draft : ElementDraft) (z : ℤ) → FitsSigned w32 z → ReadsV
 unfolding element_part
 field_id_read draft z fits end rest = rw (i32_back (start_of end (signed_spelling z ++ rest)) z fits rest) refl
 
-id_read : (last : ℕ) (draft : ElementDraft) (field : Option ℕ) → last < 9 → IfSome field (λ id. id ≤ 2147483647)
+id_read : (last : ℕ) (draft : ElementDraft) (field : Option ℕ) → last < 9 → IsFieldId field
     → ReadsFields element_part (pos last) draft (id_bytes (pos last) field) (with_field draft field)
 id_read last draft None lt ok = stop_read element_part (pos last) draft
 id_read last draft (Some id) lt ok =
     field_then element_part last 9 5 _ _ _ _ _ lt (lit< tt) (lit< tt) (lit< tt)
     (field_id_read draft (pos id) (fits_i32 id (omega arith))) (stop_read element_part (pos 9) (record draft { field = Some (pos id) }))
 
-type_read : (draft : ElementDraft) (converted : Option ℤ) (field : Option ℕ) → IfSome converted (FitsSigned w32) → IfSome field (λ id. id ≤ 2147483647)
+type_read : (draft : ElementDraft) (converted : Option ℤ) (field : Option ℕ) → IfSome converted (FitsSigned w32) → IsFieldId field
     → ReadsFields element_part (pos 4) draft (type_bytes converted field) (with_field (with_type draft converted) field)
 type_read draft None field fits ok = id_read 4 draft field (lit< tt) ok
 type_read draft (Some code) field fits ok =
