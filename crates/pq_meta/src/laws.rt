@@ -1,4 +1,4 @@
-//! What holds of footers. Each function's contract is a law, and its body is empty.
+//! What holds of footers. Each function's contract is a law.
 
 ghost use Rattle.std.specs.Prelude.{◌≡◌, ℕ, All, List, Ok};
 ghost use Rattle.pq_meta.specs.declared.meta.FileMeta.{FileMeta};
@@ -10,7 +10,9 @@ ghost use Rattle.pq_meta.specs.Spelling.{IsWritable, footer_bytes};
 pub fn reads_back()
     ensures { (meta : FileMeta) → IsWritable meta → All IsNamed meta.columns
         → footer_of (footer_bytes meta) ≡ Ok meta }
-{}
+{
+    thrift_compact::reads_back();
+}
 
 /// The parts of a footer that is read fit together.
 pub fn reads_consistent()

@@ -9,6 +9,7 @@ ghost use Rattle.std.specs.List.{flat_map};
 ghost use Rattle.pq_meta.specs.Spelling.{IsColumn, IsExtent, IsGroup, IsWritable};
 
 use crate::codes::*;
+use crate::laws::reads_back;
 use crate::meta::{FileMeta, MetaChunk, MetaColumn, MetaGroup};
 use lake_types::{ColType, NoMemory};
 use std::alloc::Global;
@@ -314,12 +315,13 @@ fn put_footer(writer: &mut Writer, meta: &FileMeta) -> Result<(), NoMemory>
 /// field ids of at most 2,147,483,647, no two of them the same; fewer than 4,294,967,296 groups, each
 /// with one uncompressed chunk for each column, of as many values as the group has rows; as many rows
 /// as its groups have together; and no number and no sum of a group's lengths past 2^63 - 1.
-#[tactic(auto, using(crate::proofs::RoundTripLemmas::written_back))]
 pub fn write_meta(alloc: Global, meta: &FileMeta) -> Result<Vec<u8>, NoMemory>
     requires { IsWritable meta.now }
     ensures bytes { IfOk result (λ bytes. bytes.items ≡ spec.footer_bytes meta.now) }
     ensures back { IfOk result (λ bytes. footer_of bytes.items ≡ Ok meta.now) }
 {
+    // The law on which the last clause stands.
+    reads_back();
     let mut writer = Writer::new(alloc);
     put_footer(&mut writer, meta)?;
     Ok(writer.finish())
