@@ -12,6 +12,7 @@ use Rattle.lake_types.specs.declared.value.ColType.{ColType}
 use Rattle.lake_types.specs.declared.value.Value.{Value}
 use Rattle.pq_encodings.specs.Values.{AreInRange}
 use Rattle.pq_meta.specs.declared.meta.FileMeta.{FileMeta}
+use Rattle.pq_meta.specs.Consistency.{IsNamed}
 use Rattle.pq_meta.specs.Footers.{footer_of}
 use Rattle.pq_meta.specs.Spelling as meta_spec
 use Rattle.pq_meta.specs.Spelling.{footer_bytes}
@@ -218,11 +219,11 @@ file_read chunk size sheet meta file footer can texts is spelled small says writ
 
 -- a footer reads back, as pq_meta says
 abbrev pub MetaBack : Type 0
-MetaBack = (meta : FileMeta) → meta_spec.IsWritable meta → All meta_spec.HasText meta.columns → footer_of (footer_bytes meta) ≡ Ok meta
+MetaBack = (meta : FileMeta) → meta_spec.IsWritable meta → All IsNamed meta.columns → footer_of (footer_bytes meta) ≡ Ok meta
 
 -- the same of lists
 pub law : ChunkBack → BodySize → MetaBack → (sheet : Sheet) → IsWritable sheet → HasTexts sheet → length mark + length (groups_bytes sheet.columns 0 (cuts_of sheet)) < 2 ^ 63
     → length (footer_bytes (meta_of sheet)) < 2 ^ 32 → file_of None (canonical sheet) ≡ Ok sheet
 law chunk size footer sheet can texts below small =
-    let names : All meta_spec.HasText (map meta_column sheet.columns) = All-map meta_spec.HasText meta_column sheet.columns texts.names in
+    let names : All IsNamed (map meta_column sheet.columns) = All-map IsNamed meta_column sheet.columns texts.names in
     file_back chunk size sheet can texts.cells small (footer (meta_of sheet) (meta_writable sheet can below) names)

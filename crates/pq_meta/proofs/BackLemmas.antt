@@ -15,8 +15,8 @@ use Rattle.pq_meta.specs.declared.meta.MetaChunk.{MetaChunk}
 use Rattle.pq_meta.specs.Checks.{counted, each}
 use Rattle.pq_meta.specs.Columns.{meaning_of, meaning_of_converted, type_of, optional_of, is_field_of, has_field, field_of, leaf_of, column_of, columns_behind, columns_of}
 use Rattle.pq_meta.specs.Groups.{described_of, chunk_of, group_of, rows_of}
-use Rattle.pq_meta.specs.Consistency.{OtherField}
-use Rattle.pq_meta.specs.Spelling.{physical_of, converted_of, repetition_of, HasText, IsPlainChunk, IsGroup}
+use Rattle.pq_meta.specs.Consistency.{IsNamed, OtherField}
+use Rattle.pq_meta.specs.Spelling.{physical_of, converted_of, repetition_of, IsPlainChunk, IsGroup}
 use Rattle.pq_meta.proofs.WrittenLemmas.{id_of, element_of, root_of, chunk_draft_of, chunk_drafts_of, group_draft_of}
 
 pub counted_same : (n : ℕ) → counted n n ≡ Ok tt
@@ -66,14 +66,14 @@ before earlier column columns pairs k d lt =
     let pair : OtherField (get_or (earlier ++ column ∷ columns) k d) (get_or (earlier ++ column ∷ columns) (length earlier) d) = pairs k (length earlier) d lt within in
     rw (get_or_append_left earlier (column ∷ columns) d k lt, get_or-append_seam earlier column columns d) at pair
 
-behind_back : (earlier columns : List MetaColumn) → AllPairs OtherField (earlier ++ columns) → All HasText columns
+behind_back : (earlier columns : List MetaColumn) → AllPairs OtherField (earlier ++ columns) → All IsNamed columns
     → columns_behind earlier (map element_of columns) ≡ Ok (earlier ++ columns)
 behind_back earlier [] pairs texts = ap (λ (x : List MetaColumn). Ok x) (sym (append-nil earlier))
 behind_back earlier (column ∷ columns) pairs texts =
     let one : column_of earlier (element_of column) ≡ Ok column = column_back earlier column (texts 0 column (omega arith)) (before earlier column columns pairs) in
     let regrouped : (earlier ++ column ∷ []) ++ columns ≡ earlier ++ column ∷ columns = append_assoc earlier (column ∷ []) columns in
     let others : AllPairs OtherField ((earlier ++ column ∷ []) ++ columns) = rw regrouped pairs in
-    rw one (behind_back (earlier ++ column ∷ []) columns others (All-tail HasText column columns texts) ∙ ap (λ (x : List MetaColumn). Ok x) regrouped)
+    rw one (behind_back (earlier ++ column ∷ []) columns others (All-tail IsNamed column columns texts) ∙ ap (λ (x : List MetaColumn). Ok x) regrouped)
 
 schema_ascii : IsAscii (codes "schema")
 schema_ascii zero = lit< tt
@@ -91,7 +91,7 @@ length-map_element : (columns : List MetaColumn) → length (map element_of colu
 length-map_element [] = refl
 length-map_element (column ∷ columns) = ap (λ (n : ℕ). suc n) (length-map_element columns)
 
-pub columns_back : (columns : List MetaColumn) → AllPairs OtherField columns → All HasText columns
+pub columns_back : (columns : List MetaColumn) → AllPairs OtherField columns → All IsNamed columns
     → columns_of (root_of (length columns) ∷ map element_of columns) ≡ Ok columns
 unfolding columns_of
 columns_back columns pairs texts =

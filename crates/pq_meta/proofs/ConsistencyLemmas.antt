@@ -27,7 +27,7 @@ use Rattle.pq_meta.specs.Drafts.{footer_part, no_footer}
 use Rattle.pq_meta.specs.Footers.{footer_of, meta_of, read_of}
 use Rattle.pq_meta.specs.Groups.{described_of, chunk_of, group_of, rows_of}
 use Rattle.pq_meta.proofs.RangeLemmas.{HasShortId, HasShortIds, footer_ids}
-use Rattle.pq_meta.specs.Consistency.{OtherField, IsNamed, HasFieldId, HasValues, FitsColumns, IsConsistent}
+use Rattle.pq_meta.specs.Consistency.{OtherField, IsNamed, IsFieldId, HasFieldId, HasValues, FitsColumns, IsConsistent}
 
 -- ---- steps that gave a value
 
@@ -206,11 +206,11 @@ pairs_more earlier column pairs others i j d lt within =
           rw (get_or_append_left earlier (column ∷ []) d i less) (rw at (rw (get_or-append_seam earlier column [] d) (others i d less)))
     ]
 
-id_or_none : (b : Bool) (id : ℕ) → id ≤ 2147483647 → IfSome (if b then None else Some id) (λ n. n ≤ 2147483647)
+id_or_none : (b : Bool) (id : ℕ) → id ≤ 2147483647 → IsFieldId (if b then None else Some id)
 id_or_none true id small = tt
 id_or_none false id small = small
 
-id_kept : (earlier : List MetaColumn) (field : Option ℤ) → ((n : ℤ) → field ≡ Some n → n <ℤ pos 2147483648) → IfSome (field_of earlier field) (λ n. n ≤ 2147483647)
+id_kept : (earlier : List MetaColumn) (field : Option ℤ) → ((n : ℤ) → field ≡ Some n → n <ℤ pos 2147483648) → IsFieldId (field_of earlier field)
 id_kept earlier None short = tt
 id_kept earlier (Some (negsuc n)) short = tt
 id_kept earlier (Some (pos id)) short =
@@ -219,8 +219,7 @@ id_kept earlier (Some (pos id)) short =
 
 leaf_id : (earlier : List MetaColumn) (element : ElementDraft) (column : MetaColumn) → HasShortId element → IsLeaf earlier element column → HasFieldId column
 leaf_id earlier element column short leaf =
-    let P : Option ℕ → Type 0 = λ f. IfSome f (λ n. n ≤ 2147483647) in
-    subst P (sym leaf.field) (id_kept earlier element.field short.short)
+    subst IsFieldId (sym leaf.field) (id_kept earlier element.field short.short)
 
 record AreColumns (columns : List MetaColumn) : Type 0 where
   names : All IsNamed columns

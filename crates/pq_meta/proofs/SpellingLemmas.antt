@@ -1,13 +1,12 @@
 -- Pieces that are appended one after the other.
-use Rattle.std.proofs.Common.{◌≡◌, ℕ, ◌+◌, ◌<◌, ◌≤◌, List, [], ◌∷◌, ◌++◌, length, drop, take, get_or, refl, sym, ap, ◌∙◌, append_assoc, add-one, drop-cons, arith}
+use Rattle.std.proofs.Common.{◌≡◌, ℕ, ◌+◌, ◌<◌, ◌≤◌, List, [], ◌∷◌, ◌++◌, length, drop, take, get_or, refl, sym, ap, ◌∙◌, append_assoc, add-one, drop-cons}
 use Rattle.std.specs.Prelude.{All}
 use Rattle.std.specs.List.{flat_map}
 use Rattle.std.proofs.lemmas.List.Elements.{All-more}
 use Rattle.std.proofs.lemmas.List.{append-nil, take_all}
 use Rattle.std.proofs.Math.Seq.{drop-length}
 use Rattle.pq_meta.specs.declared.meta.MetaColumn.{MetaColumn}
-use Rattle.pq_meta.specs.declared.meta.MetaChunk.{MetaChunk}
-use Rattle.pq_meta.specs.Spelling.{chunk_bytes, chunks_bytes, HasText}
+use Rattle.pq_meta.specs.Consistency.{IsNamed}
 
 pub ruleset pieces = (append_assoc)
 
@@ -26,27 +25,9 @@ row_ends spell items out total so_far =
 pub ruleset rows = (row_goes_on, row_ends)
 
 -- the names that were written are texts
-pub texts_more : (columns : List MetaColumn) (i : ℕ) (column : MetaColumn) → i < length columns → column ≡ get_or columns i column → HasText column
-    → All HasText (take i columns) → All HasText (take (i + 1) columns)
-texts_more columns i column lt is text so_far = All-more HasText columns i column lt so_far (rw (← is) text)
+pub texts_more : (columns : List MetaColumn) (i : ℕ) (column : MetaColumn) → i < length columns → column ≡ get_or columns i column → IsNamed column
+    → All IsNamed (take i columns) → All IsNamed (take (i + 1) columns)
+texts_more columns i column lt is text so_far = All-more IsNamed columns i column lt so_far (rw (← is) text)
 
-pub texts_end : (columns : List MetaColumn) (i : ℕ) → length columns ≤ i → All HasText (take i columns) → All HasText columns
+pub texts_end : (columns : List MetaColumn) (i : ℕ) → length columns ≤ i → All IsNamed (take i columns) → All IsNamed columns
 texts_end columns i le texts = rw (take_all i columns le) at texts
-
--- the same of a loop over columns with their chunks
-pub chunk_goes_on : (columns : List MetaColumn) (chunks : List MetaChunk) (i : ℕ) (column : MetaColumn) (chunk : MetaChunk) (out now total : List ℕ)
-    → i < length columns → length chunks ≡ length columns → column ≡ get_or columns i column → chunk ≡ get_or chunks i chunk
-    → now ≡ out ++ chunk_bytes column chunk → out ++ chunks_bytes (drop i columns) (drop i chunks) ≡ total
-    → now ++ chunks_bytes (drop (i + 1) columns) (drop (i + 1) chunks) ≡ total
-chunk_goes_on columns chunks i column chunk out now total lt same is has made so_far =
-    let within : i < length chunks = omega arith in
-    let one : chunks_bytes (drop i columns) (drop i chunks) ≡ chunk_bytes column chunk ++ chunks_bytes (drop (i + 1) columns) (drop (i + 1) chunks) =
-    rw add-one (rw (drop-cons columns i column) (rw (drop-cons chunks i chunk) (rw (← is) (rw (← has) refl)))) in
-    rw made (append_assoc out (chunk_bytes column chunk) (chunks_bytes (drop (i + 1) columns) (drop (i + 1) chunks)) ∙ ap (λ (x : List ℕ). out ++ x) (sym one) ∙ so_far)
-
-pub chunks_end : (columns : List MetaColumn) (chunks : List MetaChunk) (i : ℕ) (out total : List ℕ) → length columns ≤ i → i ≤ length columns
-    → out ++ chunks_bytes (drop i columns) (drop i chunks) ≡ total → out ≡ total
-chunks_end columns chunks i out total le ge so_far =
-    let at : i ≡ length columns = omega arith in
-    let one : out ++ chunks_bytes (drop i columns) (drop i chunks) ≡ out = rw at (rw drop-length (append-nil out)) in
-    sym one ∙ so_far

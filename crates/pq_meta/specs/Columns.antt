@@ -38,6 +38,7 @@ meaning_of_member None = meaning.Other
 meaning_of_member (Some member.Text) = meaning.Text
 meaning_of_member (Some member.Date) = meaning.Date
 meaning_of_member (Some (member.Integer number)) = meaning_of_integer number.bit_width number.signed
+meaning_of_member (Some member.Other) = meaning.Other
 
 -- what a converted type says of them
 unfoldable pub meaning_of_converted : ℤ → Meaning

@@ -1,5 +1,5 @@
 -- What holds of every footer that is read.
-use Rattle.std.specs.Prelude.{◌≡◌, ◌≢◌, ◌≤◌, ℕ, ◌⊎◌, length, All, AllPairs, IfSome, None}
+use Rattle.std.specs.Prelude.{◌≡◌, ◌≢◌, ◌≤◌, ℕ, ◌⊎◌, length, All, AllPairs, IfSome, Option, None}
 use Rattle.std.specs.Str.{IsUtf8}
 use Rattle.pq_meta.specs.declared.meta.FileMeta.{FileMeta}
 use Rattle.pq_meta.specs.declared.meta.MetaColumn.{MetaColumn}
@@ -15,9 +15,12 @@ OtherField a b = (a.field ≡ None) ⊎ (a.field ≢ b.field)
 abbrev pub IsNamed : MetaColumn → Type 0
 IsNamed column = IsUtf8 column.name
 
--- a field id that a file can state
+-- a field id, where there is one, that a file can state
+abbrev pub IsFieldId : Option ℕ → Type 0
+IsFieldId field = IfSome field (λ id. id ≤ 2147483647)
+
 abbrev pub HasFieldId : MetaColumn → Type 0
-HasFieldId column = IfSome column.field (λ id. id ≤ 2147483647)
+HasFieldId column = IsFieldId column.field
 
 -- a chunk has as many values as its group has rows
 abbrev pub HasValues : ℕ → MetaChunk → Type 0

@@ -40,13 +40,13 @@ integer_part end draft id ty bytes =
 abbrev pub no_logical : LogicalDraft
 no_logical = record { member = None }
 
--- The members STRING, DATE and INTEGER. Nothing in the first two is used.
+-- The members STRING, DATE and INTEGER; any other one is not known. The last one decides. Only of INTEGER is something inside used.
 unfoldable pub logical_part : ℕ → LogicalDraft → ℤ → ℕ → List ℕ → Read LogicalDraft
 logical_part end draft id ty bytes =
     if is_field 1 STRUCT id ty then (after_value end 16 ty bytes >>= λ rest. Ok (record draft { member = Some member.Text }, rest)) else
     if is_field 6 STRUCT id ty then (after_value end 16 ty bytes >>= λ rest. Ok (record draft { member = Some member.Date }, rest)) else
     if is_field 10 STRUCT id ty then (struct_of integer_part no_integer end bytes >>= λ x. Ok (record draft { member = Some (member.Integer x.0) }, x.1)) else
-    unknown end draft ty bytes
+    (after_value end 16 ty bytes >>= λ rest. Ok (record draft { member = Some member.Other }, rest))
 
 -- ---- the schema
 

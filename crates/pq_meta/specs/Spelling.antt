@@ -1,7 +1,6 @@
 -- The one spelling of a footer that is written: the fields of each struct by rising id, each in its shortest spelling.
-use Rattle.std.specs.Prelude.{◌≡◌, ℕ, ℤ, pos, ◌+◌, ◌^◌, ◌<◌, ◌≤◌, List, [], ◌∷◌, ◌++◌, length, codes, sum_by, All, AllPairs, IfSome, Option, Some, None, Bool, true, false}
+use Rattle.std.specs.Prelude.{◌≡◌, ℕ, ℤ, pos, ◌+◌, ◌^◌, ◌<◌, ◌≤◌, List, [], ◌∷◌, ◌++◌, length, codes, sum_by, All, AllPairs, Option, Some, None, Bool, true, false}
 use Rattle.std.specs.List.{flat_map}
-use Rattle.std.specs.Str.{IsUtf8}
 use Rattle.lake_types.specs.declared.value.ColType.{ColType}
 use Rattle.lake_types.specs.declared.value.ColType.TheVariants as ty
 use Rattle.thrift_compact.specs.declared.types.TheConstants.{I32, I64, BINARY, LIST, STRUCT}
@@ -11,7 +10,7 @@ use Rattle.pq_meta.specs.declared.meta.FileMeta.{FileMeta}
 use Rattle.pq_meta.specs.declared.meta.MetaColumn.{MetaColumn}
 use Rattle.pq_meta.specs.declared.meta.MetaGroup.{MetaGroup}
 use Rattle.pq_meta.specs.declared.meta.MetaChunk.{MetaChunk}
-use Rattle.pq_meta.specs.Consistency.{OtherField}
+use Rattle.pq_meta.specs.Consistency.{HasFieldId, OtherField}
 
 -- ---- fields, each behind the field `last` of its struct
 
@@ -161,11 +160,7 @@ footer_bytes meta =
 -- a name of at most 255 bytes, and a field id that a file can state
 pub record IsColumn (column : MetaColumn) : Type 0 where
   pub name : length column.name ≤ 255
-  pub field : IfSome column.field (λ id. id ≤ 2147483647)
-
--- a name is a text
-abbrev pub HasText : MetaColumn → Type 0
-HasText column = IsUtf8 column.name
+  pub field : HasFieldId column
 
 -- numbers that a file can state
 pub record IsExtent (chunk : MetaChunk) : Type 0 where

@@ -55,7 +55,7 @@ fn meaning_of_member(member: Option<Member>) -> Meaning
     ensures { result ≡ spec.meaning_of_member member }
 {
     match member {
-        None => Meaning::Other,
+        None | Some(Member::Other) => Meaning::Other,
         Some(Member::Text) => Meaning::Text,
         Some(Member::Date) => Meaning::Date,
         Some(Member::Integer(number)) => meaning_of_integer(number),

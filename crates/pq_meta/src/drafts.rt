@@ -23,7 +23,7 @@ pub struct ElementDraft<'a> {
     pub logical: Option<LogicalDraft>,
 }
 
-/// What is read of a logical type: the last of its members that is known.
+/// What is read of a logical type: the last of its members.
 #[derive(Clone, Copy)]
 pub struct LogicalDraft {
     pub member: Option<Member>,
@@ -35,6 +35,8 @@ pub enum Member {
     Text,
     Date,
     Integer(IntegerDraft),
+    /// One that is not known.
+    Other,
 }
 
 /// What is read of the logical type of whole numbers.

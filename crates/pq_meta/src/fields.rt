@@ -83,7 +83,10 @@ impl<'a> Parts<'a> for LogicalDraft {
                 self.member = Some(Member::Date);
             }
             (10, STRUCT) => self.member = Some(Member::Integer(read_struct(alloc, reader)?)),
-            _ => pass_field(reader, ty)?,
+            _ => {
+                pass_field(reader, ty)?;
+                self.member = Some(Member::Other);
+            }
         }
         Ok(())
     }

@@ -1,16 +1,18 @@
-//! What holds of footers. Each function's contract is a law, and its body is empty.
+//! What holds of footers. Each function's contract is a law.
 
 ghost use Rattle.std.specs.Prelude.{◌≡◌, ℕ, All, List, Ok};
 ghost use Rattle.pq_meta.specs.declared.meta.FileMeta.{FileMeta};
-ghost use Rattle.pq_meta.specs.Consistency.{IsConsistent};
+ghost use Rattle.pq_meta.specs.Consistency.{IsConsistent, IsNamed};
 ghost use Rattle.pq_meta.specs.Footers.{footer_of};
-ghost use Rattle.pq_meta.specs.Spelling.{HasText, IsWritable, footer_bytes};
+ghost use Rattle.pq_meta.specs.Spelling.{IsWritable, footer_bytes};
 
 /// What is written of a footer whose names are texts reads back as that footer.
 pub fn reads_back()
-    ensures { (meta : FileMeta) → IsWritable meta → All HasText meta.columns
+    ensures { (meta : FileMeta) → IsWritable meta → All IsNamed meta.columns
         → footer_of (footer_bytes meta) ≡ Ok meta }
-{}
+{
+    thrift_compact::reads_back();
+}
 
 /// The parts of a footer that is read fit together.
 pub fn reads_consistent()

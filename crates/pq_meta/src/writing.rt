@@ -1,13 +1,15 @@
 //! Writing a footer: the fields of each struct by rising id, each in its shortest spelling.
 
 ghost use Rattle.std.specs.Prelude.{◌≡◌, ◌+◌, ◌^◌, ◌<◌, ◌≤◌, ◌<ℤ◌, ◌++◌, pos, length};
-ghost use Rattle.std.specs.Prelude.{All, IfOk, IfSome, OnOk};
+ghost use Rattle.std.specs.Prelude.{All, IfOk, OnOk};
+ghost use Rattle.pq_meta.specs.Consistency.{IsFieldId, IsNamed};
 ghost use Rattle.pq_meta.specs.Footers.{footer_of};
 ghost use Rattle.pq_meta.specs.Spelling as spec;
 ghost use Rattle.std.specs.List.{flat_map};
-ghost use Rattle.pq_meta.specs.Spelling.{HasText, IsColumn, IsExtent, IsGroup, IsWritable};
+ghost use Rattle.pq_meta.specs.Spelling.{IsColumn, IsExtent, IsGroup, IsWritable};
 
 use crate::codes::*;
+use crate::laws::reads_back;
 use crate::meta::{FileMeta, MetaChunk, MetaColumn, MetaGroup};
 use lake_types::{ColType, NoMemory};
 use std::alloc::Global;
@@ -100,7 +102,7 @@ fn repetition_of(optional: bool) -> i32
 #[tactic(auto, using(crate::proofs::SpellingLemmas::pieces))]
 fn put_id(writer: &mut Writer, last: i16, field: Option<u32>) -> Result<(), NoMemory>
     requires past { last <ℤ pos 9 }
-    requires fits { IfSome field (λ id. id ≤ 2147483647) }
+    requires fits { IsFieldId field }
     ensures { OnOk result (writer.new ≡ writer.old ++ spec.id_bytes last field) }
 {
     if let Some(id) = field {
@@ -112,7 +114,7 @@ fn put_id(writer: &mut Writer, last: i16, field: Option<u32>) -> Result<(), NoMe
 /// The converted type, if there is one, the field id, if there is one, and the stop.
 #[tactic(auto, using(crate::proofs::SpellingLemmas::pieces))]
 fn put_type(writer: &mut Writer, converted: Option<i32>, field: Option<u32>) -> Result<(), NoMemory>
-    requires { IfSome field (λ id. id ≤ 2147483647) }
+    requires { IsFieldId field }
     ensures { OnOk result (writer.new ≡ writer.old ++ spec.type_bytes converted field) }
 {
     match converted {
@@ -128,7 +130,7 @@ fn put_type(writer: &mut Writer, converted: Option<i32>, field: Option<u32>) -> 
 fn put_column(writer: &mut Writer, column: &MetaColumn) -> Result<(), NoMemory>
     requires { IsColumn column.now }
     ensures bytes { OnOk result (writer.new ≡ writer.old ++ spec.column_bytes column.now) }
-    ensures text { OnOk result (HasText column.now) }
+    ensures text { OnOk result (IsNamed column.now) }
 {
     put_int(writer, 0, 1, physical_of(column.ty))?;
     put_int(writer, 1, 3, repetition_of(column.optional))?;
@@ -151,7 +153,7 @@ fn put_root(writer: &mut Writer, columns: usize) -> Result<(), NoMemory>
 fn put_columns(writer: &mut Writer, columns: &[MetaColumn]) -> Result<(), NoMemory>
     requires { All IsColumn columns.now }
     ensures bytes { OnOk result (writer.new ≡ writer.old ++ flat_map spec.column_bytes columns.now) }
-    ensures text { OnOk result (All HasText columns.now) }
+    ensures text { OnOk result (All IsNamed columns.now) }
 {
     for column in columns {
         put_column(writer, column)?;
@@ -284,7 +286,7 @@ fn put_schema(writer: &mut Writer, columns: &[MetaColumn]) -> Result<(), NoMemor
     requires columns { All IsColumn columns.now }
     requires few { length columns.now ≤ 101 }
     ensures bytes { OnOk result (writer.new ≡ writer.old ++ spec.schema_bytes columns.now) }
-    ensures text { OnOk result (All HasText columns.now) }
+    ensures text { OnOk result (All IsNamed columns.now) }
 {
     put_int(writer, 0, 1, VERSION)?;
     put_list(writer, 1, 2, STRUCT, columns.len() as u32 + 1)?;
@@ -296,7 +298,7 @@ fn put_schema(writer: &mut Writer, columns: &[MetaColumn]) -> Result<(), NoMemor
 fn put_footer(writer: &mut Writer, meta: &FileMeta) -> Result<(), NoMemory>
     requires { IsWritable meta.now }
     ensures bytes { OnOk result (writer.new ≡ writer.old ++ spec.footer_bytes meta.now) }
-    ensures text { OnOk result (All HasText meta.now.columns) }
+    ensures text { OnOk result (All IsNamed meta.now.columns) }
 {
     let columns = meta.columns.as_slice();
     let groups = meta.groups.as_slice();
@@ -313,12 +315,13 @@ fn put_footer(writer: &mut Writer, meta: &FileMeta) -> Result<(), NoMemory>
 /// field ids of at most 2,147,483,647, no two of them the same; fewer than 4,294,967,296 groups, each
 /// with one uncompressed chunk for each column, of as many values as the group has rows; as many rows
 /// as its groups have together; and no number and no sum of a group's lengths past 2^63 - 1.
-#[tactic(auto, using(crate::proofs::RoundTripLemmas::written_back))]
 pub fn write_meta(alloc: Global, meta: &FileMeta) -> Result<Vec<u8>, NoMemory>
     requires { IsWritable meta.now }
     ensures bytes { IfOk result (λ bytes. bytes.items ≡ spec.footer_bytes meta.now) }
     ensures back { IfOk result (λ bytes. footer_of bytes.items ≡ Ok meta.now) }
 {
+    // The law on which the last clause stands.
+    reads_back();
     let mut writer = Writer::new(alloc);
     put_footer(&mut writer, meta)?;
     Ok(writer.finish())
