@@ -10,7 +10,8 @@ use Rattle.inline_rows.specs.Spelling.{IsCell, RisesFrom}
 use Rattle.inline_rows.proofs.BackLemmas.{reads_back}
 use Rattle.cat_rows.specs.Tables.{Tables}
 use Rattle.cat_rows.specs.declared.inlined.InlinedRow.{InlinedRow}
-use Rattle.cat_cell_rules.specs.Inlined.{HasMisfitBy, is_misfit}
+use Rattle.cat_cell_rules.specs.Inlined.{HasMisfitBy, is_misfit, stay_in}
+use Rattle.cat_cell_rules.specs.declared.term_index.TypedTerms.{TypedTerms}
 
 -- field ids rise and are below 2 to the 32, so there are no more cells than that
 few_behind : (f : ℕ) (cells : List (ℕ × Value)) → RisesFrom (Some f) cells → AllByRecursion IsCell cells → f < 2 ^ 32 → length cells + suc f ≤ 2 ^ 32
@@ -35,15 +36,18 @@ one_list bytes a b p q =
     let second : decoded bytes ≡ Ok b = reads_back b bytes (few b q.1.1 q.1.0) q in
     cc
 
-module _ (t : Tables) (r : InlinedRow) where
-  pub misfit_decides : (cells : List (ℕ × Value)) (b : Bool) → Spells r.cells cells → b ≡ list_any (is_misfit t r) cells → Decides b (HasMisfitBy t r)
+module _ (t : Tables) (index : List TypedTerms) (r : InlinedRow) where
+  abbrev is_wrong : ℕ × Value → Bool
+  is_wrong = is_misfit index r.table_id (stay_in t r)
+
+  pub misfit_decides : (cells : List (ℕ × Value)) (b : Bool) → Spells r.cells cells → b ≡ list_any is_wrong cells → Decides b (HasMisfitBy t index r)
   misfit_decides cells b spells is = (
     λ e. (cells, spells, sym is ∙ e),
     λ h.
         let same : h.0 ≡ cells = one_list r.cells h.0 cells h.1 spells in
-        let T : List (ℕ × Value) → Type 0 = λ xs. list_any (is_misfit t r) xs ≡ true in
+        let T : List (ℕ × Value) → Type 0 = λ xs. list_any is_wrong xs ≡ true in
         is ∙ subst T same h.2,
   )
 
-  pub no_misfit : ((cells : List (ℕ × Value)) → length cells < 2 ^ 64 → Spells r.cells cells → ⊥) → Decides false (HasMisfitBy t r)
+  pub no_misfit : ((cells : List (ℕ × Value)) → length cells < 2 ^ 64 → Spells r.cells cells → ⊥) → Decides false (HasMisfitBy t index r)
   no_misfit none = (λ e. absurd (true≢false (sym e)), λ h. absurd (none h.0 (few h.0 h.1.1.1 h.1.1.0) h.1))

@@ -3,3 +3,5 @@ pub mod InlinedLemmas
 pub mod MeetLemmas
 pub mod CellLemmas
 pub mod ColumnLemmas
+pub mod TermLemmas
+pub mod ClearLemmas

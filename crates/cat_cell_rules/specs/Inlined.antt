@@ -1,15 +1,14 @@
 -- The rule about the cells of rows that lie in the catalogue itself.
-use Rattle.std.specs.Prelude.{◌≡◌, ◌⊎◌, ◌≤◌, ◌&&◌, ℕ, Bool, true, false, not, List, [], ◌∷◌, Option, Some, None, filter, max}
+use Rattle.std.specs.Prelude.{◌≡◌, ◌⊎◌, ◌≤◌, ◌&&◌, ℕ, Bool, true, false, not, List, [], ◌∷◌, Option, Some, None}
 use Rattle.std.specs.List.{list_any}
 use Rattle.std.specs.Option.{option_map}
 use Rattle.cat_tables.specs.Table.{has_key}
-use Rattle.cat_tables.specs.Validity.{is_before, is_visible}
+use Rattle.cat_tables.specs.Validity.{is_visible}
 use Rattle.cat_rows.specs.Tables.{Tables}
 use Rattle.cat_rows.specs.Validities.{column_validity, inlined_row_validity}
 use Rattle.cat_rows.specs.declared.batch.Key.{Key}
 use Rattle.cat_rows.specs.declared.inlined.InlinedRow.{InlinedRow}
 use Rattle.cat_rows.specs.declared.schemas.ColumnRow.{ColumnRow}
-use Rattle.cat_rows.specs.declared.schemas.TableRow.{TableRow}
 use Rattle.lake_types.specs.Fits.{fits}
 use Rattle.lake_types.specs.declared.value.ColType.{ColType}
 use Rattle.lake_types.specs.declared.value.Value.{Value}
@@ -20,6 +19,10 @@ use Rattle.cat_rules.specs.Places.{of_inlined}
 use Rattle.cat_rules.specs.Readable.{type_of}
 use Rattle.cat_rules.specs.Rows.{AtSome, Names, SomeOf}
 use Rattle.cat_cell_rules.specs.Meeting.{SeesWith, table_of}
+use Rattle.cat_cell_rules.specs.Stays.{stay_of}
+use Rattle.cat_cell_rules.specs.Terms.{are_met}
+use Rattle.cat_cell_rules.specs.declared.stays.Stay.{Stay}
+use Rattle.cat_cell_rules.specs.declared.term_index.TypedTerms.{TypedTerms}
 
 abbrev pub SeesInlined : Tables → InlinedRow → ℕ → Type 0
 SeesInlined t r = SeesWith inlined_row_validity (table_of t r.table_id) r
@@ -62,22 +65,20 @@ IsInlinedBad t =
 
 -- ---- by the intervals alone
 
--- all three intervals hold the last begin
-abbrev pub all_meet : InlinedRow → TableRow → ColumnRow → Bool
-all_meet r q c =
-    let s = max r.begin_snapshot (max q.begin_snapshot c.begin_snapshot) in
-    is_before s r.end_snapshot && (is_before s q.end_snapshot && is_before s c.end_snapshot)
+-- the terms are of a type that the value doesn't fit, and one of the column's is seen with the stay
+abbrev pub is_misfit_of : ℕ → Stay → ℕ × Value → TypedTerms → Bool
+is_misfit_of table stay cell typed = not (fits cell.1 typed.column_type) && are_met table cell.0 stay typed.terms
 
-abbrev pub all_meet_row : InlinedRow → ColumnRow → Option TableRow → Bool
-all_meet_row r c None = false
-all_meet_row r c (Some q) = all_meet r q c
+abbrev pub is_misfit : List TypedTerms → ℕ → Option Stay → ℕ × Value → Bool
+is_misfit index table None cell = false
+is_misfit index table (Some stay) cell = list_any (is_misfit_of table stay cell) index
 
-abbrev pub is_misfit : Tables → InlinedRow → ℕ × Value → Bool
-is_misfit t r cell =
-    list_any (λ c. all_meet_row r c (table_of t r.table_id) && refuses cell.1 c) (filter (has_key column_of (r.table_id ∷ cell.0 ∷ [])) t.column)
+abbrev pub stay_in : Tables → InlinedRow → Option Stay
+stay_in t r = stay_of r (table_of t r.table_id)
 
-abbrev pub HasMisfitBy : Tables → InlinedRow → Type 0
-HasMisfitBy t r = (cells : List (ℕ × Value)) × Spells r.cells cells × (list_any (is_misfit t r) cells ≡ true)
+abbrev pub HasMisfitBy : Tables → List TypedTerms → InlinedRow → Type 0
+HasMisfitBy t index r =
+    (cells : List (ℕ × Value)) × Spells r.cells cells × (list_any (is_misfit index r.table_id (stay_in t r)) cells ≡ true)
 
-abbrev pub IsInlinedWrong : Tables → InlinedRow → Type 0
-IsInlinedWrong t r = HasUnreadableCells t r ⊎ (HasWrongRowId t r ⊎ HasMisfitBy t r)
+abbrev pub IsInlinedWrong : Tables → List TypedTerms → InlinedRow → Type 0
+IsInlinedWrong t index r = HasUnreadableCells t r ⊎ (HasWrongRowId t r ⊎ HasMisfitBy t index r)

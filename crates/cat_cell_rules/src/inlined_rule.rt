@@ -1,7 +1,6 @@
-ghost use Rattle.std.specs.Prelude.{◌≡◌, true, filter, IfOk};
+ghost use Rattle.std.specs.Prelude.{◌≡◌, true, IfOk};
 ghost use Rattle.std.specs.Bool.{Decides};
 ghost use Rattle.std.specs.List.{list_any};
-ghost use Rattle.std.specs.Option.{option_copied};
 ghost use Rattle.cat_rows.specs.Batches.{tables_of};
 ghost use Rattle.cat_rules.specs.First.{FirstBad, Holds};
 ghost use Rattle.cat_rules.specs.History.{IsSnapshotBad};
@@ -11,9 +10,11 @@ ghost use Rattle.cat_rows.specs.Validities.{inlined_row_validity};
 ghost use Rattle.cat_cell_rules.specs.Meeting.{meets_table, table_of};
 ghost use Rattle.cat_cell_rules.specs.Inlined as spec;
 
-use crate::meeting::{is_before, meets_table};
-use cat_rows::{CatRows, ColumnRow, InlinedRow, Key, TableRow};
-use cat_rules::{CheckedRule, first_checked, rows_of_column, type_of};
+use crate::meeting::meets_table;
+use crate::stays::{Stay, stay_of};
+use crate::term_index::{TermIndex, TypedTerms, index_of};
+use cat_rows::{CatRows, InlinedRow, Key};
+use cat_rules::{CheckedRule, first_checked};
 use cat_tables::find_row;
 use inline_rows::{CellsFault, cells_ok, decode_cells};
 use lake_types::{NoMemory, Value, fits};
@@ -44,65 +45,71 @@ fn has_wrong_row_id(rows: &CatRows, row: &InlinedRow) -> bool
     }
 }
 
-/// Whether a column is of a known type that the value doesn't fit.
-fn refuses(value: &Value, column: &ColumnRow) -> bool
-    ensures { result ≡ spec.refuses value.now column.now }
+/// Whether terms are of a type that refuses a cell, and one of its column is seen with the stay.
+fn is_misfit_of(table: u64, stay: Stay, cell: &(u32, Value), typed: &TypedTerms) -> bool
+    ensures { result ≡ spec.is_misfit_of table stay cell.now typed.now }
 {
-    match type_of(column.column_type.as_str()) {
-        Some(ty) => !fits(value, ty),
+    !fits(&cell.1, typed.column_type) && typed.terms.are_met(table, cell.0, stay)
+}
+
+/// Whether a column that is seen with the stay refuses a cell.
+fn is_refused(index: &TermIndex, table: u64, stay: Stay, cell: &(u32, Value)) -> bool
+    ensures { result ≡ list_any (spec.is_misfit_of table stay cell.now) index.now }
+{
+    index
+        .as_slice()
+        .iter()
+        .any(|typed| is_misfit_of(table, stay, cell, typed))
+}
+
+fn is_misfit(index: &TermIndex, table: u64, stay: Option<Stay>, cell: &(u32, Value)) -> bool
+    ensures { result ≡ spec.is_misfit index.now table stay cell.now }
+{
+    match stay {
+        Some(stay) => is_refused(index, table, stay, cell),
         None => false,
     }
 }
 
-/// Whether the intervals of a row, its table and a column have a snapshot in common: all three hold the last begin.
-fn all_meet(row: &InlinedRow, table: &TableRow, column: &ColumnRow) -> bool
-    ensures { result ≡ spec.all_meet row.now table.now column.now }
+/// When a row and its table are valid together, if they ever are.
+fn stay_in(rows: &CatRows, row: &InlinedRow) -> Option<Stay>
+    ensures { result ≡ spec.stay_in (tables_of rows.now) row.now }
 {
-    let begin = row
-        .begin_snapshot
-        .max(table.begin_snapshot.max(column.begin_snapshot));
-    is_before(begin, row.end_snapshot)
-        && (is_before(begin, table.end_snapshot) && is_before(begin, column.end_snapshot))
+    stay_of(row, find_row(rows.table(), &row.table_id))
 }
 
-fn all_meet_row(row: &InlinedRow, column: &ColumnRow, table: Option<&TableRow>) -> bool
-    ensures { result ≡ spec.all_meet_row row.now column.now (option_copied table.entry) }
+fn are_misfits(rows: &CatRows, index: &TermIndex, row: &InlinedRow, cells: &[(u32, Value)]) -> bool
+    ensures { result ≡ list_any (spec.is_misfit index.now row.now.table_id (spec.stay_in (tables_of rows.now) row.now)) cells.now }
 {
-    match table {
-        Some(table) => all_meet(row, table, column),
-        None => false,
-    }
+    let stay = stay_in(rows, row);
+    let table = row.table_id;
+    cells.iter().any(|cell| is_misfit(index, table, stay, cell))
 }
 
-/// Whether a column that is seen with the row refuses a cell.
-fn is_misfit(rows: &CatRows, row: &InlinedRow, cell: &(u32, Value)) -> bool
-    ensures { result ≡ spec.is_misfit (tables_of rows.now) row.now cell.now }
-{
-    let table = find_row(rows.table(), &row.table_id);
-    let columns = rows_of_column(rows.column(), row.table_id, u64::from(cell.0));
-    columns.iter().any(|column| all_meet_row(row, column, table) && refuses(&cell.1, column))
-}
-
-fn are_misfits(rows: &CatRows, row: &InlinedRow, cells: &[(u32, Value)]) -> bool
-    ensures { result ≡ list_any (spec.is_misfit (tables_of rows.now) row.now) cells.now }
-{
-    cells.iter().any(|cell| is_misfit(rows, row, cell))
-}
-
-fn has_misfit(alloc: Global, rows: &CatRows, row: &InlinedRow) -> Result<bool, NoMemory>
-    ensures { IfOk result (λ yes. Decides yes (spec.HasMisfitBy (tables_of rows.now) row.now)) }
+fn has_misfit(
+    alloc: Global,
+    rows: &CatRows,
+    index: &TermIndex,
+    row: &InlinedRow,
+) -> Result<bool, NoMemory>
+    ensures { IfOk result (λ yes. Decides yes (spec.HasMisfitBy (tables_of rows.now) index.now row.now)) }
 {
     match decode_cells(alloc, row.cells.as_slice()) {
-        Ok(cells) => Ok(are_misfits(rows, row, cells.as_slice())),
+        Ok(cells) => Ok(are_misfits(rows, index, row, cells.as_slice())),
         Err(CellsFault::BadCells { .. }) => Ok(false),
         Err(CellsFault::Memory) => Err(AllocError),
     }
 }
 
-fn is_wrong(alloc: Global, rows: &CatRows, row: &InlinedRow) -> Result<bool, NoMemory>
-    ensures { IfOk result (λ yes. Decides yes (spec.IsInlinedWrong (tables_of rows.now) row.now)) }
+fn is_wrong(
+    alloc: Global,
+    rows: &CatRows,
+    index: &TermIndex,
+    row: &InlinedRow,
+) -> Result<bool, NoMemory>
+    ensures { IfOk result (λ yes. Decides yes (spec.IsInlinedWrong (tables_of rows.now) index.now row.now)) }
 {
-    let misfit = has_misfit(alloc, rows, row)?;
+    let misfit = has_misfit(alloc, rows, index, row)?;
     Ok(has_unreadable_cells(rows, row) || (has_wrong_row_id(rows, row) || misfit))
 }
 
@@ -110,15 +117,16 @@ fn is_wrong(alloc: Global, rows: &CatRows, row: &InlinedRow) -> Result<bool, NoM
 #[derive(Drop)]
 struct WrongInlined<'a> {
     rows: &'a CatRows,
+    index: TermIndex,
 }
 
 impl<'a> CheckedRule<InlinedRow> for WrongInlined<'a> {
-    ghost Bad = { λ w r. (meets_table inlined_row_validity r (table_of (tables_of w.rows.now) r.table_id) ≡ true) × spec.IsInlinedWrong (tables_of w.rows.now) r };
+    ghost Bad = { λ w r. (meets_table inlined_row_validity r (table_of (tables_of w.rows.now) r.table_id) ≡ true) × spec.IsInlinedWrong (tables_of w.rows.now) w.index r };
 
     ghost name = { of_inlined };
 
     fn judge(&self, alloc: Global, row: &InlinedRow) -> Result<Option<Key>, NoMemory> {
-        let wrong = is_wrong(alloc, self.rows, row)?;
+        let wrong = is_wrong(alloc, self.rows, &self.index, row)?;
         if wrong && meets_table(self.rows, row, row.table_id) {
             Ok(Some(Key::Inlined(row.table_id, row.row_id, row.begin_snapshot)))
         } else {
@@ -137,5 +145,6 @@ pub fn first_wrong_inlined(alloc: Global, rows: &CatRows) -> Result<Option<Key>,
 {
     // That snapshots rise is what the proof takes of them.
     let _snapshots = rows.snapshot();
-    first_checked(alloc, &WrongInlined { rows }, rows.inlined_row())
+    let index = index_of(alloc, rows.column())?;
+    first_checked(alloc, &WrongInlined { rows, index }, rows.inlined_row())
 }

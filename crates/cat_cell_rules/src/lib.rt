@@ -5,6 +5,9 @@ mod column_rule;
 mod defaults;
 mod inlined_rule;
 mod meeting;
+mod stays;
+mod term_index;
+mod terms;
 
 pub use column_rule::first_wrong_column;
 pub use inlined_rule::first_wrong_inlined;
