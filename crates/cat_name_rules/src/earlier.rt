@@ -99,7 +99,7 @@ pub(crate) fn first_kept(rows: &CatRows) -> u64
     kept_of(rows.snapshot()).first
 }
 
-/// The first schema of a name that a kept snapshot sees twice.
+/// The first schema with the name of an earlier one that a kept snapshot sees too.
 pub fn first_used_schema_name(alloc: Global, rows: &CatRows) -> Result<Option<Key>, NoMemory>
     requires history { Holds (IsSnapshotBad (tables_of rows.now)) }
     requires intervals { Holds (IsIntervalBad (tables_of rows.now)) }
@@ -109,7 +109,7 @@ pub fn first_used_schema_name(alloc: Global, rows: &CatRows) -> Result<Option<Ke
     first_crowded(alloc, &SchemaNames { first }, 1, rows.schema())
 }
 
-/// The first table of a name that a kept snapshot sees twice in one schema.
+/// The first table with the schema and the name of an earlier one that a kept snapshot sees too.
 pub fn first_used_table_name(alloc: Global, rows: &CatRows) -> Result<Option<Key>, NoMemory>
     requires history { Holds (IsSnapshotBad (tables_of rows.now)) }
     requires intervals { Holds (IsIntervalBad (tables_of rows.now)) }
@@ -119,7 +119,7 @@ pub fn first_used_table_name(alloc: Global, rows: &CatRows) -> Result<Option<Key
     first_crowded(alloc, &TableNames { first }, 1, rows.table())
 }
 
-/// The first delete file of a data file of which a kept snapshot sees another one.
+/// The first delete file with the data file of an earlier one that a kept snapshot sees too.
 pub fn first_second_delete_file(alloc: Global, rows: &CatRows) -> Result<Option<Key>, NoMemory>
     requires history { Holds (IsSnapshotBad (tables_of rows.now)) }
     requires intervals { Holds (IsIntervalBad (tables_of rows.now)) }
