@@ -10,17 +10,6 @@ use Rattle.pq_file.specs.declared.fault.FileFault.{FileFault}
 use Rattle.pq_file.specs.declared.fault.FileFault.TheVariants as fault
 use Rattle.pq_file.specs.Answers.{Fails, fault_of_meta, fault_of_page, of_meta, of_page, ◌then◌}
 
--- a fault of the definition is its fault
-pub stands : {A : Type 0} (e : FileFault) (read : Result A FileFault) → read ≡ Err e → Fails e read
-stands fault.Memory read h = tt
-stands fault.Magic read h = h
-stands (fault.Footer size) read h = h
-stands (fault.Meta e) read h = h
-stands (fault.TooManyRows rows) read h = h
-stands (fault.Chunk group column e) read h = h
-stands (fault.Span group column) read h = h
-stands (fault.BadCell column row) read h = h
-
 -- the first fault of two readings stands
 pub handed_on : {A B : Type 0} (e : FileFault) (read : Result A FileFault) (more : A → Result B FileFault) → Fails e read → Fails e (read then more)
 handed_on fault.Memory read more h = tt
@@ -40,15 +29,3 @@ meta_fails (meta.MissingField id) read h = rw h refl
 meta_fails (meta.Nested name) read h = rw h refl
 meta_fails (meta.UnknownType code) read h = rw h refl
 meta_fails (meta.Count want got) read h = rw h refl
-
--- a fault of a chunk
-pub page_fails : {A : Type 0} (group column : ℕ) (e : PageFault) (read : Result A PageFault) → PageFails e read → Fails (fault_of_page group column e) (of_page group column read)
-page_fails group column page.Memory read h = tt
-page_fails group column (page.Compressed codec) read h = rw h refl
-page_fails group column (page.Encoding code) read h = rw h refl
-page_fails group column (page.Thrift f) read h = rw h refl
-page_fails group column (page.Missing id) read h = rw h refl
-page_fails group column (page.Values e) read h = rw h refl
-page_fails group column (page.Count want got) read h = rw h refl
-page_fails group column page.NoDictionary read h = rw h refl
-page_fails group column (page.BadUtf8 at) read h = rw h refl

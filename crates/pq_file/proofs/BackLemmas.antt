@@ -20,12 +20,11 @@ use Rattle.pq_pages.specs.Pages.{Cells, chunk_of}
 use Rattle.pq_pages.specs.Writing as pages
 use Rattle.pq_pages.specs.Writing.{AreTexts, AreWritable, chunk_bytes}
 use Rattle.pq_file.specs.declared.parts.Part.{Part}
-use Rattle.pq_file.specs.declared.parts.GroupParts.{GroupParts}
 use Rattle.pq_file.specs.Canonical.{canonical, chunk_at, chunks_at, cuts_of, group_bytes, groups_at, groups_bytes, meta_column, meta_of, piece_bytes, piece_of}
 use Rattle.pq_file.specs.Cells.{is_text}
 use Rattle.pq_file.specs.Frame.{mark}
 use Rattle.pq_file.specs.Raw.{is_value, raw_of}
-use Rattle.pq_file.specs.Reading.{bare, beside, cells_fit, file_of, groups_fit, groups_in, is_wanted, longer, part_of, parts_fit, parts_in, sheet_in, sheet_of, span_of, spec_of, with_group}
+use Rattle.pq_file.specs.Reading.{GroupParts, bare, beside, cells_fit, file_of, groups_fit, groups_in, is_wanted, longer, part_of, parts_fit, parts_in, sheet_in, sheet_of, span_of, spec_of, with_group}
 use Rattle.pq_file.specs.Writable.{HasCellTexts, HasText, HasTexts, HoldTexts, IsColumn, IsWritable, column_weight}
 use Rattle.pq_file.proofs.FrameLemmas.{file_with, footer_back}
 use Rattle.pq_file.proofs.GroupLemmas.{joined}
@@ -128,7 +127,7 @@ groups_back chunk size total row group columns (rows ∷ sizes) all front rest g
 
 -- ---- The ranges
 
-cells_back : (place row : ℕ) (t : ColType) (cells : List Value) → All (Fits t) cells → cells_fit place t row cells ≡ Ok tt
+pub cells_back : (place row : ℕ) (t : ColType) (cells : List Value) → All (Fits t) cells → cells_fit place t row cells ≡ Ok tt
 cells_back place row t [] h = refl
 cells_back place row t (v ∷ vs) h = rw (All-head (Fits t) v vs h) (cells_back place (row + 1) t vs (All-tail (Fits t) v vs h))
 

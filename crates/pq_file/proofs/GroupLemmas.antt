@@ -84,9 +84,6 @@ joined row rows cells =
     let behind : drop row (take (row + rows) cells) ≡ take rows (drop row cells) = drop-take row rows cells in
     rw (← front, ← behind) (take-append-drop row (take (row + rows) cells))
 
-pub no_texts : (columns : List SheetColumn) → All (HasPieceTexts 0 0) columns
-no_texts columns k d lt is = All-nil HasText
-
 pub more_texts : (columns : List SheetColumn) (row rows : ℕ) → All (HasPieceTexts 0 row) columns → All (HasPieceTexts row rows) columns → All (HasPieceTexts 0 (row + rows)) columns
 more_texts columns row rows before here k d lt is =
     let cells : List Value = (get_or columns k d).cells in

@@ -12,10 +12,9 @@ use Rattle.pq_file.specs.declared.fault.FileFault.{FileFault}
 use Rattle.pq_file.specs.declared.fault.FileFault.TheVariants as fault
 use Rattle.pq_file.specs.declared.parts.Misfit.{Misfit}
 use Rattle.pq_file.specs.declared.parts.Part.{Part}
-use Rattle.pq_file.specs.declared.parts.GroupParts.{GroupParts}
 use Rattle.pq_file.specs.Answers.{◌then◌, Fails}
 use Rattle.pq_file.specs.Joining.{joined, verdict}
-use Rattle.pq_file.specs.Reading.{bare, beside, few_rows, groups_fit, groups_in, is_wanted, parts_fit, parts_in, sheet_in, with_group}
+use Rattle.pq_file.specs.Reading.{GroupParts, bare, beside, few_rows, groups_fit, groups_in, is_wanted, parts_fit, parts_in, sheet_in, with_group}
 use Rattle.pq_file.proofs.AnswerLemmas.{handed_on}
 use Rattle.pq_file.proofs.PartLemmas.{next_of}
 

@@ -5,6 +5,7 @@ pub mod CutLemmas
 pub mod FrameLemmas
 pub mod GroupLemmas
 pub mod HeldLemmas
+pub mod HoldingLemmas
 pub mod JoinLemmas
 pub mod LimitLemmas
 pub mod MetaLemmas

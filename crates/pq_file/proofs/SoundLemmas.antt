@@ -32,11 +32,10 @@ use Rattle.pq_pages.specs.Writing.{AreTexts}
 use Rattle.pq_file.specs.declared.fault.FileFault.{FileFault}
 use Rattle.pq_file.specs.declared.fault.FileFault.TheVariants as fault
 use Rattle.pq_file.specs.declared.parts.Part.{Part}
-use Rattle.pq_file.specs.declared.parts.GroupParts.{GroupParts}
 use Rattle.pq_file.specs.Answers.{Answers, of_meta, of_page, ◌then◌}
 use Rattle.pq_file.specs.Cells.{bool_of, cells_of, is_text, long_of, number_of, spread, string_of, typed}
 use Rattle.pq_file.specs.Frame.{footer_in}
-use Rattle.pq_file.specs.Reading.{bare, beside, cells_fit, few_rows, file_of, groups_fit, groups_in, is_wanted, longer, most_rows, part_of, parts_fit, parts_in, sheet_in, sheet_of, span_of, spec_of, stated_rows, with_group}
+use Rattle.pq_file.specs.Reading.{GroupParts, bare, beside, cells_fit, few_rows, file_of, groups_fit, groups_in, is_wanted, longer, most_rows, part_of, parts_fit, parts_in, sheet_in, sheet_of, span_of, spec_of, stated_rows, with_group}
 use Rattle.pq_file.specs.Sheets.{IsSound, IsSoundColumn}
 use Rattle.pq_file.specs.Writable.{HasCellTexts, HasName, HasText, IsCell, IsShort, OtherField}
 
@@ -50,27 +49,27 @@ FootersConsistent = (bytes : List ℕ) (meta : FileMeta) → footer_of bytes ≡
 -- ---- Readings that have a value
 
 -- each of two readings had one
-record Steps {A B : Type 0} (first : Result A FileFault) (next : A → Result B FileFault) (made : B) : Type 0 where
-  value : A
-  gives : first ≡ Ok value
-  later : next value ≡ Ok made
+pub record Steps {A B : Type 0} (first : Result A FileFault) (next : A → Result B FileFault) (made : B) : Type 0 where
+  pub value : A
+  pub gives : first ≡ Ok value
+  pub later : next value ≡ Ok made
 
-steps : {A B : Type 0} (first : Result A FileFault) (next : A → Result B FileFault) (made : B) → (first then next) ≡ Ok made → Steps first next made
+pub steps : {A B : Type 0} (first : Result A FileFault) (next : A → Result B FileFault) (made : B) → (first then next) ≡ Ok made → Steps first next made
 steps (Ok x) next made h = record { value = x; gives = refl; later = h }
 steps (Err e) next made h = cc
 
-ok_same : {A : Type 0} (x y : A) → let r : A → Result A FileFault = λ a. Ok a in r x ≡ r y → x ≡ y
+pub ok_same : {A : Type 0} (x y : A) → let r : A → Result A FileFault = λ a. Ok a in r x ≡ r y → x ≡ y
 ok_same x y h = cc
 
-page_ok : {A : Type 0} (group place : ℕ) (read : Result A PageFault) (x : A) → of_page group place read ≡ Ok x → read ≡ Ok x
+pub page_ok : {A : Type 0} (group place : ℕ) (read : Result A PageFault) (x : A) → of_page group place read ≡ Ok x → read ≡ Ok x
 page_ok group place (Ok y) x h = ap (λ a. Ok a) (ok_same y x h)
 page_ok group place (Err e) x h = cc
 
-meta_ok : {A : Type 0} (read : Result A MetaFault) (x : A) → of_meta read ≡ Ok x → read ≡ Ok x
+pub meta_ok : {A : Type 0} (read : Result A MetaFault) (x : A) → of_meta read ≡ Ok x → read ≡ Ok x
 meta_ok (Ok y) x h = ap (λ a. Ok a) (ok_same y x h)
 meta_ok (Err e) x h = cc
 
-passed : {A : Type 0} (b : Bool) (read : Result A FileFault) (e : FileFault) (x : A) → (if b then read else Err e) ≡ Ok x → (b ≡ true) × (read ≡ Ok x)
+pub passed : {A : Type 0} (b : Bool) (read : Result A FileFault) (e : FileFault) (x : A) → (if b then read else Err e) ≡ Ok x → (b ≡ true) × (read ≡ Ok x)
 passed true read e x h = (refl, h)
 passed false read e x h = cc
 
@@ -199,7 +198,7 @@ parts_sound law bytes fields rows group place (column ∷ columns) (chunk ∷ ch
 
 -- ---- Ranges
 
-cells_in_range : (place : ℕ) (t : ColType) (row : ℕ) (cells : List Value) (u : ⊤) → cells_fit place t row cells ≡ Ok u → All (λ cell. fits cell t ≡ true) cells
+pub cells_in_range : (place : ℕ) (t : ColType) (row : ℕ) (cells : List Value) (u : ⊤) → cells_fit place t row cells ≡ Ok u → All (λ cell. fits cell t ≡ true) cells
 cells_in_range place t row [] u h = All-nil (λ cell. fits cell t ≡ true)
 cells_in_range place t row (cell ∷ cells) u h =
     let good = passed (fits cell t) (cells_fit place t (row + 1) cells) (fault.BadCell place row) u h in
@@ -353,7 +352,7 @@ all_apart rows (m ∷ ms) [] grown apart = absurd grown
 all_apart rows (m ∷ ms) (c ∷ cs) grown apart =
     pairs_cons OtherField c cs (others_apart rows m c ms cs (grown.0).field grown.1 (pairs_head consistency.OtherField m ms apart)) (all_apart rows ms cs grown.1 (pairs_tail consistency.OtherField m ms apart))
 
-few_ok : (rows : ℕ) (u : ⊤) → few_rows rows ≡ Ok u → rows ≤ 4194304
+pub few_ok : (rows : ℕ) (u : ⊤) → few_rows rows ≡ Ok u → rows ≤ 4194304
 few_ok rows u h =
     elim (cases_lt most_rows rows) [
       | inl more ↦ absurd (refused (nat_lt most_rows rows) (fault.TooManyRows rows) u (lt-ltb most_rows rows more) h)

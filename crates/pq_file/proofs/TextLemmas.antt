@@ -21,9 +21,3 @@ first_utf8 before after x is h = let all : All (λ x. IsUtf8 x) (x.items ∷ ite
 pub next_all : (before after : List (Vec ℕ Global)) (x : Vec ℕ Global) → before ≡ x ∷ after → All (λ x. IsUtf8 x) (items_of before) → All (λ x. IsUtf8 x) (items_of after)
 next_all before after x is h =
     let all : All (λ x. IsUtf8 x) (x.items ∷ items_of after) = rw is at h in All-tail (λ x. IsUtf8 x) x.items (items_of after) all
-
-pub next_cells : (f : List ℕ → Value) (cells : List Value) (before after : List (Vec ℕ Global)) (x : Vec ℕ Global) (total : List Value)
-    → before ≡ x ∷ after → cells ++ map f (items_of before) ≡ total → (cells ++ f x.items ∷ []) ++ map f (items_of after) ≡ total
-next_cells f cells before after x total is so_far =
-    let one : cells ++ map f (items_of before) ≡ (cells ++ f x.items ∷ []) ++ map f (items_of after) = rw is (simp append_assoc) in
-    sym one ∙ so_far

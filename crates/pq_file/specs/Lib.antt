@@ -3,6 +3,7 @@ pub mod Frame
 pub mod Cells
 pub mod Reading
 pub mod Joining
+pub mod Holding
 pub mod Sheets
 pub mod Cuts
 pub mod Raw

@@ -16,7 +16,6 @@ use Rattle.pq_pages.specs.Pages.{chunk_of}
 use Rattle.pq_file.specs.declared.fault.FileFault.{FileFault}
 use Rattle.pq_file.specs.declared.fault.FileFault.TheVariants as fault
 use Rattle.pq_file.specs.declared.parts.Part.{Part}
-use Rattle.pq_file.specs.declared.parts.GroupParts.{GroupParts}
 use Rattle.pq_file.specs.Answers.{◌then◌, of_meta, of_page}
 use Rattle.pq_file.specs.Cells.{cells_of, is_text, kind_of}
 use Rattle.pq_file.specs.Frame.{footer_in}
@@ -58,6 +57,11 @@ parts_in bytes fields group place (column ∷ columns) (chunk ∷ chunks) =
     then (part_of bytes group place column chunk then λ part. parts_in bytes fields group (place + 1) columns chunks then λ parts. Ok (part ∷ parts))
     else parts_in bytes fields group (place + 1) columns chunks
 
+-- what is read of one group
+pub record GroupParts : Type 0 where
+  pub rows : ℕ
+  pub parts : List Part
+
 -- the groups, from the one number `group` on
 abbrev pub groups_in : List ℕ → Option (List ℕ) → List MetaColumn → ℕ → List MetaGroup → Result (List GroupParts) FileFault
 groups_in bytes fields columns group [] = Ok []
@@ -75,9 +79,6 @@ cells_fit place t row (v ∷ vs) = if fits v t then cells_fit place t (row + 1) 
 abbrev pub parts_fit : ℕ → List Part → Result ⊤ FileFault
 parts_fit row [] = Ok tt
 parts_fit row (part ∷ parts) = cells_fit part.place part.ty row part.cells then λ u. parts_fit row parts
-
-abbrev pub rows_in : GroupParts → ℕ
-rows_in group = group.rows
 
 abbrev pub stated_rows : MetaGroup → ℕ
 stated_rows group = group.rows

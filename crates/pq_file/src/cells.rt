@@ -5,7 +5,7 @@ ghost use Rattle.std.specs.Str.{IsUtf8};
 ghost use Rattle.std.specs.Vec.Iter.{into_iter_items};
 ghost use Rattle.lake_types.specs.declared.value.ColType.TheVariants.{Varchar};
 ghost use Rattle.pq_encodings.specs.Values.{values_of};
-ghost use Rattle.pq_pages.specs.Pages.{cells_of as raw_of};
+ghost use Rattle.pq_pages.specs.Pages as pages;
 ghost use Rattle.pq_pages.specs.Writing.{AreTexts};
 ghost use Rattle.pq_file.specs.Cells as spec;
 
@@ -157,7 +157,7 @@ fn spread(alloc: Global, flags: &[bool], values: ValueList) -> Result<ValueList,
 /// The cells of a column that a chunk holds.
 pub fn cells_of(alloc: Global, ty: ColType, raw: RawCells) -> Result<ValueList, NoMemory>
     requires { ty ≡ Varchar → AreTexts (values_of raw.plain) }
-    ensures { IfOk result (λ cells. cells ≡ spec.cells_of ty (raw_of raw)) }
+    ensures { IfOk result (λ cells. cells ≡ spec.cells_of ty (pages.cells_of raw)) }
 {
     let RawCells { defined, plain } = raw;
     let values = typed(alloc, ty, plain)?;

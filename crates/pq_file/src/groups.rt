@@ -3,7 +3,8 @@
 ghost use Rattle.std.specs.Prelude.{◌≡◌, IfOk, length, true};
 ghost use Rattle.std.specs.Option.{option_copied};
 ghost use Rattle.pq_encodings.specs.Values.{values_of};
-ghost use Rattle.pq_pages.specs.Pages.{cells_of as raw_of, chunk_of};
+ghost use Rattle.pq_pages.specs.Pages as pages;
+ghost use Rattle.pq_pages.specs.Pages.{chunk_of};
 ghost use Rattle.pq_pages.specs.Writing.{AreTexts};
 ghost use Rattle.pq_file.specs.Answers.{Answers, Gives, of_page};
 ghost use Rattle.pq_file.specs.Reading as spec;
@@ -58,7 +59,7 @@ fn raw_cells(
     place: u64,
     spec: &ChunkSpec,
 ) -> Result<RawCells, FileFault>
-    ensures exact { Gives raw_of result (of_page group place (chunk_of spec.now span.now)) }
+    ensures exact { Gives pages.cells_of result (of_page group place (chunk_of spec.now span.now)) }
     ensures texts { IfOk result (λ raw. spec.now.text ≡ true → AreTexts (values_of raw.plain)) }
 {
     match read_chunk(alloc, span, spec) {

@@ -10,7 +10,7 @@ ghost use Rattle.pq_file.specs.Writable.{HasTexts, IsWritable};
 
 /// The canonical file of a sheet whose texts are UTF-8 reads back as the sheet.
 ///
-/// The two bounds hold of all that a memory can hold.
+/// The first bound holds of all bytes that a memory can hold, the second of a footer whose length four bytes can state.
 pub fn reads_back()
     ensures { (sheet : Sheet) → IsWritable sheet → HasTexts sheet
         → length mark + length (groups_bytes sheet.columns 0 (cuts_of sheet)) < 2 ^ 63 → length (footer_bytes (meta_of sheet)) < 2 ^ 32

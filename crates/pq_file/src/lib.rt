@@ -7,6 +7,7 @@ mod cuts;
 mod fault;
 mod frame;
 mod groups;
+mod holding;
 mod laws;
 mod limits;
 mod parts;
@@ -17,6 +18,7 @@ mod sound;
 mod writing;
 
 pub use fault::FileFault;
+pub use holding::{reads_named, reads_what_is_held};
 pub use laws::reads_back;
 pub use limits::is_writable;
 pub use reading::{read_columns, read_file};

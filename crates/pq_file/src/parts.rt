@@ -1,4 +1,4 @@
-use lake_types::{ColType, Listed, ValueList};
+use lake_types::{ColType, ValueList};
 
 /// The cells of a column in one group.
 #[derive(Debug, Drop)]
@@ -7,14 +7,6 @@ pub struct Part {
     pub place: u64,
     pub ty: ColType,
     pub cells: ValueList,
-}
-
-/// What is read of one group.
-#[derive(Debug, Drop)]
-pub struct GroupParts {
-    pub rows: u64,
-    /// The columns that are read, in order.
-    pub parts: Listed<Part>,
 }
 
 /// A cell that does not fit its column's type.

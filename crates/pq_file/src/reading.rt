@@ -4,9 +4,11 @@ ghost use Rattle.std.specs.Prelude.{◌≡◌, ◌≤◌, ◌<◌, ◌^◌, ◌�
 ghost use Rattle.std.specs.List.{sum_by};
 ghost use Rattle.std.specs.Option.{option_copied};
 ghost use Rattle.std.specs.Vec.Iter.{into_iter_items};
+ghost use Rattle.lake_types.specs.declared.sheet.Sheet.{Sheet};
 ghost use Rattle.lake_types.specs.declared.sheet.SheetColumn.{SheetColumn};
 ghost use Rattle.pq_meta.specs.Consistency.{FitsColumns, IsConsistent};
 ghost use Rattle.pq_file.specs.Answers.{Answers};
+ghost use Rattle.pq_file.specs.Holding.{AnswersReading, IsReading, named};
 ghost use Rattle.pq_file.specs.Joining as joining;
 ghost use Rattle.pq_file.specs.Reading as spec;
 ghost use Rattle.pq_file.specs.Sheets.{IsSound};
@@ -14,6 +16,7 @@ ghost use Rattle.pq_file.specs.Sheets.{IsSound};
 use crate::fault::{FileFault, meta_fault};
 use crate::frame::footer_in;
 use crate::groups::{is_wanted, parts_in};
+use crate::holding::{reads_named, reads_what_is_held};
 use crate::parts::{Misfit, Part};
 use crate::ranges::misfit_in;
 use crate::sound::reads_sound;
@@ -205,18 +208,22 @@ fn file_of(alloc: Global, fields: Option<&[u32]>, bytes: &[u8]) -> Result<Sheet,
 
 /// Reads a whole file.
 ///
-/// It answers the sheet exactly where the file has one, and else the first fault in reading order: the two ends, the
+/// It answers the sheet exactly where the file holds one, and else the first fault in reading order: the two ends, the
 /// footer's length, the footer, the number of rows; then each chunk, by group and column; last the ranges of the cells,
 /// by group, column and row. No memory is taken for rows of a file that has more than 4,194,304, nor for a value of more
 /// than 16,777,216 bytes.
 pub fn read_file(alloc: Global, bytes: &[u8]) -> Result<Sheet, FileFault>
-    // The sheet, exactly where the file holds one; else the first fault.
+    // The sheet exactly where the file holds one, and it holds no other.
+    ensures holds { AnswersReading None bytes.now result }
+
+    // Else the first fault, and that alone.
     ensures exact { Answers result (spec.file_of None bytes.now) }
 
     // Each column has a cell for each row, of its type, and NULL only where it is optional; field ids differ.
     ensures sound { IfOk result IsSound }
 {
-    // The law on which the last clause stands.
+    // The laws on which the clauses stand.
+    reads_what_is_held();
     reads_sound();
     file_of(alloc, None, bytes)
 }
@@ -226,13 +233,21 @@ pub fn read_file(alloc: Global, bytes: &[u8]) -> Result<Sheet, FileFault>
 /// The chunks of other columns are not looked at, so nothing in them is a fault. In a fault the column is its place among
 /// all columns of the file.
 pub fn read_columns(alloc: Global, bytes: &[u8], fields: &[u32]) -> Result<Sheet, FileFault>
-    // The sheet of these columns, exactly where the file holds one; else the first fault.
+    // The sheet of these columns exactly where the file holds one, and it holds no other.
+    ensures holds { AnswersReading (Some fields.now) bytes.now result }
+
+    // Where the file holds a sheet of all its columns, it is that sheet without the others.
+    ensures named { IfOk result (λ sheet. (whole : Sheet) → IsReading None bytes.now whole → sheet ≡ named fields.now whole) }
+
+    // Else the first fault, and that alone.
     ensures exact { Answers result (spec.file_of (Some fields.now) bytes.now) }
 
     // It is sound, as a whole one is.
     ensures sound { IfOk result IsSound }
 {
-    // The law on which the last clause stands.
+    // The laws on which the clauses stand.
+    reads_what_is_held();
+    reads_named();
     reads_sound();
     file_of(alloc, Some(fields), bytes)
 }

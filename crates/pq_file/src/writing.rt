@@ -142,7 +142,10 @@ fn meta_columns(alloc: Global, columns: &[SheetColumn]) -> Result<Listed<MetaCol
     Ok(made)
 }
 
-/// Appends the footer, its length and the mark. A footer whose length does not fit four bytes wants more memory than there is.
+/// Appends the footer, its length and the mark.
+///
+/// A footer whose length does not fit four bytes is answered like want of memory. That no sheet that can be written has one
+/// is not proved.
 fn push_footer(out: &mut Vec<u8>, footer: &[u8]) -> Result<(), NoMemory>
     ensures bytes { OnOk result (out.new.items ≡ out.old.items ++ spec.footer_part footer.now) }
     ensures small { OnOk result (length footer.now < 2 ^ 32) }

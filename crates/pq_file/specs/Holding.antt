@@ -1,0 +1,82 @@
+-- Which sheet a file holds, said of the whole file at once, whatever a reader looks at first.
+use Rattle.std.specs.Prelude.{◌≡◌, ◌≤◌, ℕ, ◌++◌, List, [], length, filter, All, Option, Some, None, Result, Ok, Err, true}
+use Rattle.std.specs.List.{AllZip, enumerate_from, flat_map, slice_get}
+use Rattle.byteorder.specs.Endian.{little_number}
+use Rattle.lake_types.specs.declared.sheet.Sheet.{Sheet}
+use Rattle.lake_types.specs.declared.sheet.SheetColumn.{SheetColumn}
+use Rattle.lake_types.specs.declared.value.Value.{Value}
+use Rattle.lake_types.specs.Fits.{fits}
+use Rattle.pq_meta.specs.declared.meta.FileMeta.{FileMeta}
+use Rattle.pq_meta.specs.declared.meta.MetaChunk.{MetaChunk}
+use Rattle.pq_meta.specs.declared.meta.MetaColumn.{MetaColumn}
+use Rattle.pq_meta.specs.declared.meta.MetaGroup.{MetaGroup}
+use Rattle.pq_meta.specs.Footers.{footer_of}
+use Rattle.pq_pages.specs.Pages.{Cells, chunk_of}
+use Rattle.pq_file.specs.declared.fault.FileFault.{FileFault}
+use Rattle.pq_file.specs.declared.fault.FileFault.TheVariants as fault
+use Rattle.pq_file.specs.Cells.{cells_of}
+use Rattle.pq_file.specs.Frame.{mark}
+use Rattle.pq_file.specs.Reading.{bare, is_among, is_wanted, most_rows, spec_of}
+
+-- a file: the mark, any bytes, the footer, four bytes that state the footer's length, the mark
+pub record HasFooter (bytes footer : List ℕ) : Type 0 where
+  pub front : List ℕ
+  pub size : List ℕ
+  pub parts : bytes ≡ mark ++ (front ++ (footer ++ (size ++ mark)))
+  pub four : length size ≡ 4
+  pub stated : little_number 4 size ≡ length footer
+
+-- A group holds these cells of the column at a place: they are those of its chunk at that place, whose bytes lie in the file
+-- where the footer says, and each of them is of the column's type.
+pub record HoldsCells (bytes : List ℕ) (place : ℕ) (column : MetaColumn) (group : MetaGroup) (cells : List Value) : Type 0 where
+  pub chunk : MetaChunk
+  pub at : slice_get group.chunks place ≡ Some chunk
+  pub before : List ℕ
+  pub span : List ℕ
+  pub after : List ℕ
+  pub parts : bytes ≡ before ++ (span ++ after)
+  pub first : length before ≡ chunk.first
+  pub size : length span ≡ chunk.length
+  pub raw : Cells
+  pub says : chunk_of (spec_of column chunk) span ≡ Ok raw
+  pub typed : cells ≡ cells_of column.ty raw
+  pub fit : All (λ cell. fits cell column.ty ≡ true) cells
+
+-- a column of the footer, with its place, holds this column of a sheet: the cells are those of its groups, one after the other
+pub record HoldsColumn (bytes : List ℕ) (groups : List MetaGroup) (column : ℕ × MetaColumn) (made : SheetColumn) : Type 0 where
+  pub pieces : List (List Value)
+  pub held : AllZip (HoldsCells bytes column.0 column.1) groups pieces
+  pub same : made ≡ record (bare column.1) { cells = flat_map (λ piece. piece) pieces }
+
+-- the wanted columns with their places among all columns
+abbrev pub wanted_of : Option (List ℕ) → List MetaColumn → List (ℕ × MetaColumn)
+wanted_of fields columns = filter (λ (column : ℕ × MetaColumn). is_wanted fields column.1) (enumerate_from 0 columns)
+
+-- A file holds this sheet of its wanted columns.
+pub record IsReading (fields : Option (List ℕ)) (bytes : List ℕ) (sheet : Sheet) : Type 0 where
+  pub footer : List ℕ
+  pub frame : HasFooter bytes footer
+  pub meta : FileMeta
+  pub says : footer_of footer ≡ Ok meta
+  pub few_rows : meta.num_rows ≤ most_rows
+  pub rows : sheet.rows ≡ meta.num_rows
+  pub columns : AllZip (HoldsColumn bytes meta.groups) (wanted_of fields meta.columns) sheet.columns
+
+-- it holds this sheet and no other
+pub record IsOnlyReading (fields : Option (List ℕ)) (bytes : List ℕ) (sheet : Sheet) : Type 0 where
+  pub reading : IsReading fields bytes sheet
+  pub only : (other : Sheet) → IsReading fields bytes other → other ≡ sheet
+
+-- it holds none
+abbrev pub HasNoReading : Option (List ℕ) → List ℕ → Type 0
+HasNoReading fields bytes = (sheet : Sheet) → IsReading fields bytes sheet → ⊥
+
+-- The answer is the one sheet that the file holds, or a fault where it holds none. Memory may run out at any file.
+abbrev pub AnswersReading : Option (List ℕ) → List ℕ → Result Sheet FileFault → Type 0
+AnswersReading fields bytes (Ok sheet) = IsOnlyReading fields bytes sheet
+AnswersReading fields bytes (Err fault.Memory) = Unit {0}
+AnswersReading fields bytes (Err e) = HasNoReading fields bytes
+
+-- the columns of a sheet that have one of these field ids, in the sheet's order
+abbrev pub named : List ℕ → Sheet → Sheet
+named fields sheet = record sheet { columns = filter (λ (column : SheetColumn). is_among fields column.field) sheet.columns }
