@@ -7,7 +7,7 @@ use std::alloc::Global;
 /// Columns of a table.
 pub const COLUMNS: u64 = 10;
 
-fn table(alloc: Global, id: u64) -> Result<CatRow, NoMemory> {
+pub fn table(alloc: Global, id: u64) -> Result<CatRow, NoMemory> {
     Ok(CatRow::Table(TableRow {
         table_id: id,
         begin_snapshot: id,
@@ -32,13 +32,17 @@ fn column(alloc: Global, table: u64, id: u64) -> Result<CatRow, NoMemory> {
     }))
 }
 
-pub fn add_tables(alloc: Global, rows: &mut CatRowList, tables: u64) -> Result<(), NoMemory> {
-    rows.push(CatRow::Schema(SchemaRow {
+pub fn main_schema(alloc: Global) -> Result<CatRow, NoMemory> {
+    Ok(CatRow::Schema(SchemaRow {
         schema_id: 0,
         begin_snapshot: 0,
         end_snapshot: None,
         schema_name: Words::of(alloc, "main")?,
-    }))?;
+    }))
+}
+
+pub fn add_tables(alloc: Global, rows: &mut CatRowList, tables: u64) -> Result<(), NoMemory> {
+    rows.push(main_schema(alloc)?)?;
     for id in 1..=tables {
         rows.push(table(alloc, id)?)?;
     }

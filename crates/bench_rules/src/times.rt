@@ -1,16 +1,21 @@
-//! The time of `first_bad_row` over 99,904 rows.
+//! The times of `first_bad_row` over 99,904 rows of many tables, and over 99,612 rows of one table.
 
+use crate::altered::altered_rows;
 use crate::{catalogue, rows_of};
 use anyhow::Result;
-use cat_rows::CatRows;
+use cat_rows::{CatRowList, CatRows};
 use cat_sane::first_bad_row;
 use std::alloc::Global;
 use std::rt::Clock;
 use std::time::Instant;
 
-/// Tables of the catalogue, and how often it is looked at.
+/// Tables of the one catalogue.
 const TABLES: u64 = 1_350;
 
+/// The newest snapshot of the other, in which a column is altered at each.
+const NEWEST: u64 = 16_601;
+
+/// How often each is looked at.
 const ROUNDS: u64 = 5;
 
 /// The nanoseconds since a moment.
@@ -43,8 +48,12 @@ fn rules_time(rt: &impl Clock, alloc: Global, rows: &CatRows) -> Result<u64> {
     nanos_since(rt, &start)
 }
 
-pub fn print_times<R: Clock + Print>(rt: &R, alloc: Global) -> Result<()> {
-    let adds = rows_of(alloc, TABLES)?;
+fn print_time<R: Clock + Print>(
+    rt: &R,
+    alloc: Global,
+    of_what: &str,
+    adds: CatRowList,
+) -> Result<()> {
     let count = adds.len() as u64;
     let rows = catalogue(alloc, adds)?;
     let mut sort = u64::MAX;
@@ -55,9 +64,19 @@ pub fn print_times<R: Clock + Print>(rt: &R, alloc: Global) -> Result<()> {
     }
     let ratio = rules / sort.max(1);
     println!(rt;
-        "{count} rows: rules {} us, sort {} us, ratio {ratio}",
+        "{count} rows of {of_what}: rules {} us, sort {} us, ratio {ratio}",
         rules / 1_000,
         sort / 1_000
     )?;
     Ok(())
+}
+
+pub fn print_times<R: Clock + Print>(rt: &R, alloc: Global) -> Result<()> {
+    print_time(rt, alloc, "many tables", rows_of(alloc, TABLES)?)?;
+    print_time(
+        rt,
+        alloc,
+        "one column altered often",
+        altered_rows(alloc, NEWEST)?,
+    )
 }

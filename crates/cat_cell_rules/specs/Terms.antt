@@ -29,7 +29,7 @@ is_of_type t x = is_type t x.column_type
 abbrev pub is_of_column : ℕ → ℕ → Term → Bool
 is_of_column table column x = (x.table_id == table) && (x.column_id == column)
 
--- It is above the terms of the column that begin before the end, and below its other ones.
+-- a key past the terms of the column that begin before the end, and not past its other ones
 abbrev pub limit_of : ℕ → ℕ → Option ℕ → List ℕ
 limit_of table column None = table ∷ (column + 1) ∷ 0 ∷ []
 limit_of table column (Some end) = table ∷ column ∷ end ∷ []

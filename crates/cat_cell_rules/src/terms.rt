@@ -78,7 +78,7 @@ fn is_below(term: &Term, limit: &[u64]) -> bool
         .is_lt()
 }
 
-/// What is above the terms of a column that begin before the end, and below its other ones.
+/// A key past the terms of a column that begin before the end, and not past its other ones.
 fn limit_of(table: u64, column: u32, end: Option<u64>) -> [u64; 3]
     ensures { result ≡ spec.limit_of table column end }
 {
@@ -103,6 +103,7 @@ fn first_ones(terms: &[Term], count: usize) -> &[Term]
     &terms[..count]
 }
 
+/// The last of the terms below a key.
 fn last_below<'a>(terms: &'a [Term], limit: &[u64]) -> Option<&'a Term>
     requires { RisesByKey spec.term_key terms.now }
     ensures { option_copied result ≡ spec.last_below limit.now terms.now }
@@ -150,8 +151,8 @@ impl Terms {
         Ok(Terms { items })
     }
 
-    /// Whether a term of the column is seen with a stay: where the terms of each column are apart, the last one that
-    /// begins before the stay's end tells.
+    /// Whether a term of the column and a stay have a snapshot in common. Where the terms of a column don't overlap,
+    /// each ends before the next, so the last one that begins before the stay's end tells.
     pub(crate) fn are_met(&self, table: u64, column: u32, stay: Stay) -> bool
         ensures { result ≡ spec.are_met table column stay self.now }
     {
