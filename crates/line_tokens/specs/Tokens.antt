@@ -211,7 +211,7 @@ infixl 20 ◌then◌
 abbrev pub ◌then◌ : Cut → Cut → Cut
 a then b = record { tokens = a.tokens ++ b.tokens; places = a.places ++ b.places }
 
--- one token fewer is to come
+-- one byte of blanks fewer is to come, or one token
 abbrev pub GoesOn : ℕ → Cut → List ℕ → Cut → List ℕ → Type 0
 GoesOn len old bytes new more =
     (most : ℕ) → (old then cut_in len (suc most) bytes) ≡ (new then cut_in len most more)
