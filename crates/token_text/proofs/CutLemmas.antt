@@ -9,7 +9,8 @@ use Rattle.line_tokens.specs.declared.token.Kind.{Kind}
 use Rattle.line_tokens.specs.declared.token.Kind.TheVariants as k
 use Rattle.line_tokens.specs.declared.token.Token.{Token}
 use Rattle.line_tokens.specs.Tokens.{closing, undouble, is_blank, is_digit, is_hex, is_number, is_letter, is_bytes, digits_len, hex_len, token_at, tokens_in, tokens_of, made, taken, text_at, text_to, quoted_at, quoted_to, quoted_of, number_at, bytes_at, opens, is_quote}
-use Rattle.token_text.specs.Spelled.{doubled, all_doubled, quoted_by, spelling, spelled, IsCut, IsCutAt, AllCut}
+use Rattle.lake_types.specs.Texts.{all_doubled}
+use Rattle.token_text.specs.Spelled.{spelling, spelled, IsCut, IsCutAt, AllCut}
 
 -- ---- quotes
 
