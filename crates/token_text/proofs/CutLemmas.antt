@@ -1,14 +1,13 @@
 -- A token that is spelled before a blank is cut off again.
-use Rattle.std.proofs.Common.{◌≡◌, ℕ, suc, zero, ◌+◌, ◌-◌, ◌*◌, ◌≤◌, ◌<◌, ◌==◌, ◌%◌, Bool, true, false, cond, ◌&&◌, ◌||◌, not, List, [], ◌∷◌, ◌++◌, length, take, drop, take_while, map, Option, Some, None, refl, ap, sym, ◌∙◌, subst, arith, append_assoc, length-append, length-drop}
-use Rattle.std.specs.Prelude.{nat_le, nat_lt, if◌then◌else◌}
+use Rattle.std.proofs.Common.{◌≡◌, ℕ, suc, zero, ◌+◌, ◌-◌, ◌≤◌, ◌==◌, ◌%◌, Bool, true, false, cond, ◌&&◌, ◌||◌, List, [], ◌∷◌, ◌++◌, length, take, drop, take_while, Some, refl, ap, sym, ◌∙◌, arith, append_assoc, length-append, length-drop}
+use Rattle.std.specs.Prelude.{nat_le, if◌then◌else◌}
 use Rattle.std.specs.List.{list_all, prefix_len}
 use Rattle.std.specs.Str.{is_utf8}
 use Rattle.std.proofs.lemmas.Bool.{eqb-true, eq-eqb}
 use Rattle.std.proofs.Math.Seq.{take-append_seam}
-use Rattle.line_tokens.specs.declared.token.Kind.{Kind}
 use Rattle.line_tokens.specs.declared.token.Kind.TheVariants as k
 use Rattle.line_tokens.specs.declared.token.Token.{Token}
-use Rattle.line_tokens.specs.Tokens.{closing, undouble, is_blank, is_digit, is_hex, is_number, is_letter, is_bytes, digits_len, hex_len, token_at, tokens_in, tokens_of, made, taken, text_at, text_to, quoted_at, quoted_to, quoted_of, number_at, bytes_at, opens, is_quote}
+use Rattle.line_tokens.specs.Tokens.{closing, undouble, is_blank, is_digit, is_hex, is_letter, is_bytes, token_at, tokens_in, tokens_of}
 use Rattle.lake_types.specs.Texts.{all_doubled}
 use Rattle.token_text.specs.Spelled.{spelling, spelled, IsCut, IsCutAt, AllCut}
 
@@ -180,9 +179,6 @@ enough (suc n) (suc m) (b ∷ rest) h g =
     enough_one n m b rest false h g = ap (λ x. (token_at b rest).0 ∷ x) g
 
 -- ---- one token behind the other
-
-blank_next : (n : ℕ) (rest : List ℕ) → tokens_in (suc n) (32 ∷ rest) ≡ tokens_in n rest
-blank_next n rest = refl
 
 cut_next : (t : Token) (b : ℕ) (s more : List ℕ) (n : ℕ) → is_blank b ≡ false → token_at b (s ++ 32 ∷ more) ≡ (t, length s)
     → tokens_in (suc n) (b ∷ (s ++ 32 ∷ more)) ≡ t ∷ tokens_in n (32 ∷ more)

@@ -1,5 +1,5 @@
 -- What holds of tokens that are spelled.
-use Rattle.std.specs.Prelude.{ℕ, ◌≡◌, ◌&&◌, ◌==◌, ◌%◌, nat_le, true, List, [], ◌∷◌, length}
+use Rattle.std.specs.Prelude.{ℕ, ◌≡◌, ◌&&◌, ◌==◌, ◌%◌, nat_le, true, List, ◌∷◌, length}
 use Rattle.std.specs.List.{list_all}
 use Rattle.std.specs.Str.{is_utf8}
 use Rattle.line_tokens.specs.Tokens.{is_digit, is_hex, tokens_of}
