@@ -13,7 +13,7 @@ use Rattle.token_text.specs.Spelled.{spelling, spelled, IsCut, IsCutAt, AllCut}
 
 -- ---- quotes
 
-double : ℕ → List ℕ → List ℕ
+unfoldable pub double : ℕ → List ℕ → List ℕ
 double quote [] = []
 double quote (b ∷ z) = if b == quote then b ∷ b ∷ double quote z else b ∷ double quote z
 
@@ -21,7 +21,7 @@ double_one : (quote b : ℕ) (y z : List ℕ) (t : Bool) → b == quote ≡ t �
 double_one quote b y z true e h = let i : b ≡ quote = eqb-true b quote e in ap (λ x. quote ∷ quote ∷ x) h ∙ ap (λ x. x ∷ x ∷ z) (sym i)
 double_one quote b y z false e h = ap (λ x. b ∷ x) h
 
-double_is : (quote : ℕ) (z : List ℕ) → all_doubled quote z ≡ double quote z
+pub double_is : (quote : ℕ) (z : List ℕ) → all_doubled quote z ≡ double quote z
 unfolding double
 double_is quote [] = refl
 double_is quote (b ∷ z) = double_one quote b (all_doubled quote z) (double quote z) (b == quote) refl (double_is quote z)
@@ -30,7 +30,7 @@ undouble_one : (quote b : ℕ) (z : List ℕ) (t : Bool) → b == quote ≡ t �
 undouble_one quote b z true e h = rw e (ap (λ x. b ∷ x) h)
 undouble_one quote b z false e h = rw e (ap (λ x. b ∷ x) h)
 
-undouble_double : (quote : ℕ) (z : List ℕ) → undouble quote false (double quote z) ≡ z
+pub undouble_double : (quote : ℕ) (z : List ℕ) → undouble quote false (double quote z) ≡ z
 unfolding double
 undouble_double quote [] = refl
 undouble_double quote (b ∷ z) = undouble_one quote b z (b == quote) refl (undouble_double quote z)
@@ -55,7 +55,7 @@ unfolding double
 closing_double quote c rest h [] n = closing_end quote c n rest h ∙ ap Some (omega arith)
 closing_double quote c rest h (b ∷ z) n = closing_one quote b c n z rest (b == quote) refl (closing_double quote c rest h z)
 
-take_all : {A : Type 0} (a b : List A) → take (length a) (a ++ b) ≡ a
+pub take_all : {A : Type 0} (a b : List A) → take (length a) (a ++ b) ≡ a
 take_all a b = take-append_seam a b
 
 drop_all : {A : Type 0} (a b : List A) → drop (length a) (a ++ b) ≡ b
