@@ -1,5 +1,5 @@
 -- One token.
-use Rattle.std.proofs.Common.{◌≡◌, ℕ, ◌-◌, List, [], ◌∷◌, ◌++◌, length, drop, refl, ap, sym, ◌∙◌, append_assoc, Bool, true, false, suc, Option, Some, None, append-nil, zero}
+use Rattle.std.proofs.Common.{◌≡◌, ℕ, ◌-◌, List, [], ◌∷◌, ◌++◌, length, drop, refl, ap, sym, ◌∙◌, append_assoc, Bool, true, false, suc, Some, None, append-nil, zero}
 use Rattle.std.specs.Str.{IsUtf8, is_utf8}
 use Rattle.std.proofs.lemmas.Str.{is_utf8-from_IsUtf8, IsUtf8-from_is_utf8}
 use Rattle.line_tokens.specs.Tokens.{cut_in, token_at, is_blank, ◌then◌, tokens_in, places_in, made}

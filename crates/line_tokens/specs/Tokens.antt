@@ -1,12 +1,13 @@
 -- The tokens of a line, each with the offset of its first byte. Between them stand any blanks, and a token runs as far
 -- as it can. Where the bytes are no token, the rest of the line is one bad token.
-use Rattle.std.specs.Prelude.{ℕ, ◌+◌, ◌-◌, ◌%◌, ◌==◌, ◌||◌, ◌&&◌, not, nat_le, nat_lt, Bool, true, false, List, [], ◌∷◌, zero, suc, length, take_while, drop, take, map, ◌++◌, ◌≡◌, if◌then◌else◌, Option, Some, None, option_map}
+use Rattle.std.specs.Prelude.{ℕ, ◌+◌, ◌-◌, ◌%◌, ◌==◌, ◌||◌, ◌&&◌, nat_le, Bool, true, false, List, [], ◌∷◌, zero, suc, length, take_while, drop, take, ◌++◌, ◌≡◌, if◌then◌else◌, Option, Some, None, option_map, codes}
 use Rattle.std.specs.Str.{is_utf8, str_eq_ignore_ascii_case}
+use denote.Enum.Bare.{sameb}
+use Rattle.line_tokens.specs.contracts.token.Kind.{the_type}
 use Rattle.line_tokens.specs.declared.token.Kind.{Kind}
 use Rattle.line_tokens.specs.declared.token.Kind.TheVariants as k
 use Rattle.line_tokens.specs.declared.token.Token.{Token}
 use Rattle.line_tokens.specs.declared.cut.Cut.{Cut}
-use Rattle.line_tokens.specs.declared.token.TheConstants.{KEYWORDS}
 
 -- ---- bytes
 
@@ -65,9 +66,71 @@ abbrev pub lookup : List (List ℕ × Kind) → List ℕ → Kind
 lookup [] word = k.Word
 lookup (e ∷ es) word = if str_eq_ignore_ascii_case e.0 word then e.1 else lookup es word
 
+abbrev pub keywords : List (List ℕ × Kind)
+keywords =
+    (codes "AND", k.And) ∷
+    (codes "DEFAULT", k.Default) ∷
+    (codes "FALSE", k.False) ∷
+    (codes "FROM", k.From) ∷
+    (codes "IS", k.Is) ∷
+    (codes "NOT", k.Not) ∷
+    (codes "NULL", k.Null) ∷
+    (codes "OR", k.Or) ∷
+    (codes "ROWID", k.RowId) ∷
+    (codes "SELECT", k.Select) ∷
+    (codes "SET", k.Set) ∷
+    (codes "TABLE", k.Table) ∷
+    (codes "TO", k.To) ∷
+    (codes "TRUE", k.True) ∷
+    (codes "VALUES", k.Values) ∷
+    (codes "WHERE", k.Where) ∷
+    (codes "ADD", k.Add) ∷
+    (codes "ALTER", k.Alter) ∷
+    (codes "AT", k.At) ∷
+    (codes "BEGIN", k.Begin) ∷
+    (codes "BIGINT", k.BigInt) ∷
+    (codes "BLOB", k.Blob) ∷
+    (codes "BOOLEAN", k.Boolean) ∷
+    (codes "CLEAN", k.Clean) ∷
+    (codes "COLUMN", k.Column) ∷
+    (codes "COMMIT", k.Commit) ∷
+    (codes "COMPACT", k.Compact) ∷
+    (codes "CREATE", k.Create) ∷
+    (codes "DATA", k.Data) ∷
+    (codes "DATE", k.Date) ∷
+    (codes "DELETE", k.Delete) ∷
+    (codes "DROP", k.Drop) ∷
+    (codes "EXPIRE", k.Expire) ∷
+    (codes "FLUSH", k.Flush) ∷
+    (codes "INSERT", k.Insert) ∷
+    (codes "INTEGER", k.Integer) ∷
+    (codes "INTO", k.Into) ∷
+    (codes "RENAME", k.Rename) ∷
+    (codes "ROLLBACK", k.Rollback) ∷
+    (codes "SCHEMA", k.Schema) ∷
+    (codes "SMALLINT", k.SmallInt) ∷
+    (codes "SNAPSHOTS", k.Snapshots) ∷
+    (codes "TINYINT", k.TinyInt) ∷
+    (codes "TYPE", k.Type) ∷
+    (codes "UPDATE", k.Update) ∷
+    (codes "VARCHAR", k.Varchar) ∷
+    (codes "VERSION", k.Version) ∷
+    []
+
 -- what a word is: the keyword that it is without regard to case, or a plain word
 unfoldable pub keyword : List ℕ → Kind
-keyword = lookup (map (λ e. (e.0.now, e.1)) KEYWORDS)
+keyword = lookup keywords
+
+abbrev pub is_same : Kind → Kind → Bool
+is_same a b = sameb the_type a b
+
+abbrev pub word_in : List (List ℕ × Kind) → Kind → List ℕ
+word_in [] a = []
+word_in (e ∷ es) a = if is_same a e.1 then e.0 else word_in es a
+
+-- the keyword of a kind, or no text where it is none
+abbrev pub the_word : Kind → List ℕ
+the_word = word_in keywords
 
 -- ---- a token and how many bytes of the rest it takes, behind its first byte
 
@@ -211,7 +274,7 @@ infixl 20 ◌then◌
 abbrev pub ◌then◌ : Cut → Cut → Cut
 a then b = record { tokens = a.tokens ++ b.tokens; places = a.places ++ b.places }
 
--- one token fewer is to come
+-- one byte of blanks fewer is to come, or one token
 abbrev pub GoesOn : ℕ → Cut → List ℕ → Cut → List ℕ → Type 0
 GoesOn len old bytes new more =
     (most : ℕ) → (old then cut_in len (suc most) bytes) ≡ (new then cut_in len most more)

@@ -14,7 +14,7 @@ pub struct Cut {
     pub places: Listed<usize>,
 }
 
-/// Adds the next token of a line of so many bytes, and gives what is behind it.
+/// Passes a blank, or adds the next token of a line of so many bytes, and gives what is behind it.
 #[tactic(auto, using(crate::proofs::TokenLemmas::steps))]
 fn next<'a>(
     alloc: Global,

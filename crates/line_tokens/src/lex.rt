@@ -1,40 +1,15 @@
-ghost use Rattle.std.specs.Prelude.{◌≡◌, ◌∷◌, ◌≤◌, ◌<◌, ◌+◌, ◌-◌, ◌++◌, length, false, IfOk, IfSome, drop, take, map};
-ghost use Rattle.std.specs.Str.{str_eq_ignore_ascii_case};
+ghost use Rattle.std.specs.Prelude.{◌≡◌, ◌∷◌, ◌≤◌, ◌<◌, ◌+◌, ◌-◌, ◌++◌, length, false, IfOk, IfSome, drop, take};
 ghost use Rattle.line_tokens.specs.Tokens as spec;
 
 use crate::bytes::{digits_len, hex_len, is_bytes, is_letter, is_number, word_len};
+use crate::keywords::keyword;
 use crate::signs::{long_sign, sign_of};
-use crate::token::{KEYWORDS, Kind, Token};
+use crate::token::{Kind, Token};
 use lake_types::Words;
 use std::alloc::{AllocError, Global};
 
 /// The most bytes of a name.
 const NAME_MOST: usize = 255;
-
-fn same_word(a: &[u8], b: &[u8]) -> bool
-    ensures { result ≡ str_eq_ignore_ascii_case a.now b.now }
-{
-    a.eq_ignore_ascii_case(b)
-}
-
-fn lookup(mut table: &[(&[u8], Kind)], word: &[u8]) -> Kind
-    ensures { result ≡ spec.lookup (map (λ e. (e.0.now, e.1)) table.entry.now) word.now }
-{
-    while let [entry, rest @ ..] = table {
-        if same_word(entry.0, word) {
-            return entry.1;
-        }
-        table = rest;
-    }
-    Kind::Word
-}
-
-#[tactic(auto, unfolding(crate::specs::Tokens::keyword))]
-fn keyword(word: &[u8]) -> Kind
-    ensures { result ≡ spec.keyword word.now }
-{
-    lookup(&KEYWORDS, word)
-}
 
 /// How many bytes there are to behind the closing quote.
 fn closing(quote: u8, text: &[u8]) -> Option<usize>

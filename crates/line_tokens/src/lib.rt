@@ -3,9 +3,11 @@
 
 mod bytes;
 mod cut;
+mod keywords;
 mod lex;
 mod signs;
 mod token;
 
 pub use cut::{Cut, cut_of, first_token};
-pub use token::{KEYWORDS, Kind, Token, TokenList};
+pub use keywords::word_of;
+pub use token::{Kind, Token, TokenList};

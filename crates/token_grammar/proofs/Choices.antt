@@ -1,12 +1,12 @@
 -- Signs, choices and repetitions.
-use Rattle.std.proofs.Common.{◌≡◌, ℕ, zero, suc, ◌+◌, ◌≤◌, arith, Bool, true, false, cond, not, ◌&&◌, ◌||◌, ◌⊎◌, inl, inr, List, [], ◌∷◌, ◌++◌, length, refl, ap, sym, ◌∙◌, append_assoc, subst, Option, Some, None, append-nil, length-append}
+use Rattle.std.proofs.Common.{◌≡◌, Bool, true, false, cond, ◌&&◌, ◌||◌, ◌⊎◌, inl, inr, List, [], ◌∷◌, ◌++◌, refl, ap, sym, ◌∙◌, subst, Option, Some, None, append-nil}
 use Rattle.std.specs.Prelude.{Ok, Err}
 use Rattle.line_tokens.specs.declared.token.Kind.{Kind}
 use Rattle.line_tokens.specs.declared.token.Token.{Token}
-use Rattle.token_grammar.specs.Grammar.{SpellsBoth, SpellsAll, SpellsMaybe, SpellsSign, SpellsToken, SpellsMade, Read, and_then, found, read_one, starts, read_many}
+use Rattle.token_grammar.specs.Grammar.{SpellsMaybe, SpellsSign, Read, and_then, found, read_one, starts}
 use Rattle.token_grammar.specs.Written.{IsWritten, AllWritten}
 use Rattle.token_grammar.proofs.Fronts.{or_left, or_right, or_cases, and_parts, never_both, two_tokens}
-use Rattle.token_grammar.proofs.Known.{Known, Apart, Ends, Whole, Stuck, Outcome, known_token, outcome_token, known_both, outcome_both}
+use Rattle.token_grammar.proofs.Known.{Known, Apart, Ends, Stuck, Outcome}
 
 -- ---- a sign
 

@@ -1,12 +1,12 @@
 -- What is known of a phrase, and how it is put together.
-use Rattle.std.proofs.Common.{◌≡◌, ℕ, Bool, true, false, cond, not, ◌&&◌, ◌||◌, ◌⊎◌, inl, inr, List, [], ◌∷◌, ◌++◌, refl, ap, sym, ◌∙◌, append_assoc, subst, Option, Some, None, append-nil}
+use Rattle.std.proofs.Common.{◌≡◌, Bool, true, false, cond, not, ◌&&◌, ◌||◌, List, [], ◌∷◌, ◌++◌, refl, ap, sym, ◌∙◌, append_assoc, subst, Option, Some, None, append-nil}
 use Rattle.line_tokens.specs.declared.token.Kind.{Kind}
 use Rattle.line_tokens.specs.declared.token.Token.{Token}
 use Rattle.std.specs.Prelude.{Ok, Err}
-use Rattle.token_grammar.specs.Grammar.{SpellsBoth, SpellsAll, SpellsMaybe, SpellsSign, SpellsToken, SpellsMade, Read, and_then, found, read_one, starts, read_many}
+use Rattle.token_grammar.specs.Grammar.{SpellsBoth, SpellsToken, SpellsMade, Read, and_then, found, read_one}
 use Rattle.token_grammar.specs.Written.{IsWritten, AllWritten}
 use Rattle.token_grammar.proofs.WrittenLemmas.{append_written}
-use Rattle.token_grammar.proofs.Fronts.{cond_left, cond_right, two_tokens, and_parts, not_second, Cuts, head_same, same, longer, shorter, cuts, both_empty, or_left, or_right, or_cases, and_intro, never_both}
+use Rattle.token_grammar.proofs.Fronts.{cond_left, cond_right, two_tokens, and_parts, not_second, Cuts, head_same, same, longer, shorter, cuts, both_empty, or_left, or_right, and_intro, never_both}
 
 -- P with its first kinds, the kinds that go on after a whole one, whether it may be empty, and whether each first kind begins one
 pub record Known {A : Type 0} (P : List Token → A → Type 0) (e s : Bool) (p q : Kind → Bool) : Type 0 where

@@ -1,13 +1,12 @@
 -- What the reader answers for a whole line.
-use Rattle.std.proofs.Common.{◌≡◌, ℕ, ◌+◌, ◌-◌, ◌≤◌, ◌<◌, arith, suc, List, [], ◌∷◌, ◌++◌, length, take, drop, refl, ap, sym, ◌∙◌, subst, append_assoc, append-nil, length-append}
-use Rattle.std.specs.Prelude.{Result, Ok, Err}
-use Rattle.std.proofs.lemmas.List.{take-append-drop}
+use Rattle.std.proofs.Common.{◌≡◌, ◌+◌, ◌-◌, ◌<◌, arith, suc, List, [], ◌∷◌, ◌++◌, length, take, refl, ap, sym, ◌∙◌, subst, append_assoc, append-nil, length-append}
+use Rattle.std.specs.Prelude.{Ok, Err}
 use Rattle.std.proofs.Math.Seq.{take-append_seam, take-append-add}
 use Rattle.line_tokens.specs.declared.token.Token.{Token}
 use Rattle.token_grammar.specs.Grammar.{Grammar, Spells, Read, read}
-use Rattle.token_grammar.specs.Places.{Begins, IsWrongAt, IsOutcome, ended, at_end}
-use Rattle.token_grammar.specs.Written.{IsWritten, AllWritten}
-use Rattle.token_grammar.proofs.Known.{Known, Ends, Whole, Stuck, Outcome}
+use Rattle.token_grammar.specs.Places.{IsWrongAt, IsOutcome, ended, at_end}
+use Rattle.token_grammar.specs.Written.{AllWritten}
+use Rattle.token_grammar.proofs.Known.{Ends, Whole, Outcome}
 use Rattle.token_grammar.proofs.Sound.{Sound, known, reads}
 
 take_front : (a b : List Token) → take (length (a ++ b) - length b) (a ++ b) ≡ a
@@ -58,15 +57,3 @@ module _ {A : Type 0} (g : Grammar A) where
   -- tokens have one value
   pub one_value : Sound g → (ts : List Token) (x y : A) → Spells g ts x → Spells g ts y → x ≡ y
   one_value s ts x y h k = (known g s).one ts x y h k
-
-  -- what is spelled is read
-  pub complete : Sound g → (ts : List Token) (x : A) → Spells g ts x → ended ts (read g ts) ≡ Ok x
-  complete s ts x h = go (ended ts (read g ts)) (exact s ts)
-    where
-      go : (r : Result A ℕ) → IsOutcome g ts r → r ≡ Ok x
-      go (Ok y) k = ap Ok (one_value s ts y x k h)
-      go (Err n) k =
-          let nowhere : n < length ts → ⊥ = λ l. k.wrong l (drop (n + 1) ts) x (subst (λ (i : List Token). Spells g i x) (sym (take-append-drop (n + 1) ts)) h) in
-          let not_short : n ≡ length ts → ⊥ = λ e. k.short e x h in
-          let i = k.within in
-          absurd (omega (arith, nowhere, not_short, i))

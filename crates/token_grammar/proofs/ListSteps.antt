@@ -1,10 +1,10 @@
 -- One item more.
-use Rattle.std.proofs.Common.{◌≡◌, ℕ, suc, zero, ◌-◌, ◌+◌, ◌<◌, List, [], ◌∷◌, ◌++◌, map, refl, ap, sym, ◌∙◌, append_assoc, append-nil, Bool, true, false, length, arith}
+use Rattle.std.proofs.Common.{◌≡◌, ℕ, suc, zero, ◌-◌, ◌+◌, ◌<◌, List, [], ◌∷◌, ◌++◌, map, refl, ap, sym, ◌∙◌, append_assoc, append-nil, true, false, arith}
 use Rattle.std.specs.Prelude.{Ok, Err}
 use Rattle.line_tokens.specs.declared.token.Kind.{Kind}
 use Rattle.line_tokens.specs.declared.token.Token.{Token}
 use Rattle.token_grammar.specs.Grammar.{Grammar, read, Read, starts, and_then}
-use Rattle.token_grammar.specs.Phrases.{is, word, list}
+use Rattle.token_grammar.specs.Phrases.{is, word}
 use Rattle.token_grammar.specs.Reads.{with_front, others}
 
 front_cons : {A : Type 0} (xs : List A) (x : A) (r : Read (List (Unit {0} × A))) → with_front xs (and_then r (λ ys more. Ok ((tt, x) ∷ ys, more))) ≡ with_front (xs ++ x ∷ []) r

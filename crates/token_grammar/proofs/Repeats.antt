@@ -1,12 +1,12 @@
 -- Repetitions.
-use Rattle.std.proofs.Common.{◌≡◌, ℕ, zero, suc, ◌+◌, ◌≤◌, ◌<◌, arith, Bool, true, false, cond, not, ◌&&◌, ◌||◌, ◌⊎◌, inl, inr, List, [], ◌∷◌, ◌++◌, length, refl, ap, sym, ◌∙◌, append_assoc, subst, Option, Some, None, append-nil, length-append}
-use Rattle.std.specs.Prelude.{Result, Ok, Err}
+use Rattle.std.proofs.Common.{◌≡◌, ℕ, zero, suc, ◌+◌, ◌≤◌, arith, Bool, true, false, cond, ◌||◌, ◌⊎◌, inl, inr, List, [], ◌∷◌, ◌++◌, length, refl, ap, sym, ◌∙◌, append_assoc, subst, append-nil, length-append}
+use Rattle.std.specs.Prelude.{Ok, Err}
 use Rattle.line_tokens.specs.declared.token.Kind.{Kind}
 use Rattle.line_tokens.specs.declared.token.Token.{Token}
 use Rattle.token_grammar.specs.Grammar.{SpellsBoth, SpellsAll, Read, and_then, starts, read_many}
 use Rattle.token_grammar.proofs.Fronts.{Cuts, same, longer, shorter, cuts, or_left, or_right, never_both}
-use Rattle.token_grammar.proofs.Known.{Known, Apart, Ends, Whole, Stuck, Outcome, clash, same_cut, outcome_both}
-use Rattle.token_grammar.proofs.Choices.{starts_at, not_first}
+use Rattle.token_grammar.proofs.Known.{Known, Apart, Whole, Stuck, Outcome, outcome_both}
+use Rattle.token_grammar.proofs.Choices.{starts_at}
 
 module _ {A : Type 0} (P : List Token → A → Type 0) (p q : Kind → Bool) (known : Known P false true p q) (apart : Apart q p) where
   all_first_at : (t : Token) (m a b : List Token) (x : A) → t ∷ m ≡ a ++ b → P a x → p t.kind ≡ true

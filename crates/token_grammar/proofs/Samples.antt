@@ -1,13 +1,12 @@
 -- A line for each kind of token.
-use Rattle.std.proofs.Common.{◌≡◌, ℕ, List, [], ◌∷◌, refl, true}
+use Rattle.std.proofs.Common.{ℕ, List, [], ◌∷◌, refl}
 use Rattle.std.specs.Prelude.{codes}
 use Rattle.line_tokens.specs.declared.token.Kind.{Kind}
 use Rattle.line_tokens.specs.declared.token.Kind.TheVariants as k
 use Rattle.line_tokens.specs.declared.token.Token.{Token}
-use Rattle.line_tokens.specs.Tokens.{keyword, tokens_of}
+use Rattle.line_tokens.specs.Tokens.{keyword}
 use Rattle.line_tokens.proofs.AsciiLemmas.{ascii_text}
 use Rattle.token_grammar.specs.Phrases.{is, word}
-use Rattle.token_grammar.specs.Written.{IsWritten}
 use Rattle.token_grammar.proofs.Sound.{Sound}
 
 abbrev with_text : Kind → List ℕ → Token

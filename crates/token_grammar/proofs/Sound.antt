@@ -1,11 +1,10 @@
 -- Grammars that one token of lookahead decides, and what their reader answers.
-use Rattle.std.proofs.Common.{◌≡◌, Bool, true, false, not, ◌&&◌, ◌||◌, List, [], ◌∷◌, ◌++◌, length, ◌⊎◌, refl, sym, subst, arith, Option, Some, None}
-use Rattle.std.specs.Prelude.{Ok, Err}
+use Rattle.std.proofs.Common.{◌≡◌, Bool, true, false, not, ◌&&◌, ◌||◌, List, length, ◌⊎◌, refl, sym, subst, arith, Some}
 use Rattle.line_tokens.specs.declared.token.Kind.{Kind}
 use Rattle.line_tokens.specs.declared.token.Token.{Token}
-use Rattle.token_grammar.specs.Grammar.{Grammar, token, sign, both, either, maybe, many, made, Spells, SpellsAll, empty, first, read, Read}
-use Rattle.token_grammar.specs.Written.{IsWritten, AllWritten}
-use Rattle.token_grammar.proofs.Known.{Known, Apart, Outcome, Whole, Stuck, known_token, outcome_token, known_both, outcome_both, known_made, outcome_made}
+use Rattle.token_grammar.specs.Grammar.{Grammar, token, sign, both, either, maybe, many, made, Spells, empty, first, read}
+use Rattle.token_grammar.specs.Written.{IsWritten}
+use Rattle.token_grammar.proofs.Known.{Known, Apart, Outcome, known_token, outcome_token, known_both, outcome_both, known_made, outcome_made}
 use Rattle.token_grammar.proofs.Choices.{known_sign, outcome_sign, known_either, outcome_either, known_maybe, outcome_maybe}
 use Rattle.token_grammar.proofs.Repeats.{known_many, outcome_many}
 

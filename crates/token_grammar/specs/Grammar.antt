@@ -1,4 +1,4 @@
--- Grammars over tokens: what each form spells, and a reader that takes the longest front of a list of tokens which is spelled so.
+-- Grammars over tokens: what each form spells, and a reader with one token of lookahead.
 use Rattle.std.specs.Prelude.{ℕ, zero, suc, Bool, true, false, ◌&&◌, ◌||◌, ◌≡◌, ◌⊎◌, List, [], ◌∷◌, ◌++◌, length, Option, Some, None, Result, Ok, Err, if◌then◌else◌}
 use Rattle.line_tokens.specs.declared.token.Kind.{Kind}
 use Rattle.line_tokens.specs.declared.token.Token.{Token}

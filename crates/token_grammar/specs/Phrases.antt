@@ -1,5 +1,5 @@
 -- Forms of which grammars are put together.
-use Rattle.std.specs.Prelude.{Bool, List, [], ◌∷◌, map}
+use Rattle.std.specs.Prelude.{Bool, List, ◌∷◌, map}
 use denote.Enum.Bare.{sameb}
 use Rattle.line_tokens.specs.contracts.token.Kind.{the_type}
 use Rattle.line_tokens.specs.declared.token.Kind.{Kind}

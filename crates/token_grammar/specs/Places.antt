@@ -1,8 +1,8 @@
 -- The place of a fault: the first token that no line can have there.
-use Rattle.std.specs.Prelude.{ℕ, ◌+◌, ◌-◌, ◌≤◌, ◌<◌, ◌≡◌, List, [], ◌∷◌, ◌++◌, length, take, Option, Some, None, Result, Ok, Err}
+use Rattle.std.specs.Prelude.{ℕ, ◌+◌, ◌-◌, ◌≤◌, ◌<◌, ◌≡◌, List, [], ◌∷◌, ◌++◌, length, take, Result, Ok, Err}
 use Rattle.line_tokens.specs.declared.token.Token.{Token}
 use Rattle.token_grammar.specs.Written.{AllWritten}
-use Rattle.token_grammar.specs.Grammar.{Grammar, Spells, Read, read}
+use Rattle.token_grammar.specs.Grammar.{Grammar, Spells, Read}
 
 -- with tokens that a line can have behind them, these tokens are spelled
 abbrev pub Begins : {A : Type 0} → Grammar A → List Token → Type 0

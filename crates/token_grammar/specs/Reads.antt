@@ -1,5 +1,5 @@
 -- What a reading function answers, and where it leaves the tokens.
-use Rattle.std.specs.Prelude.{◌≡◌, List, [], ◌∷◌, Option, Some, None, ℕ, ◌++◌, map, Result, Ok, Err}
+use Rattle.std.specs.Prelude.{◌≡◌, List, ℕ, ◌++◌, map, Result, Ok, Err}
 use Rattle.line_tokens.specs.declared.token.Kind.{Kind}
 use Rattle.line_tokens.specs.declared.token.Token.{Token}
 use Rattle.token_grammar.specs.declared.cursor.Stop.{Stop}

@@ -1,4 +1,4 @@
-ghost use Rattle.std.specs.Prelude.{◌≡◌, if◌then◌else◌, drop, length, ◌≤◌, Option};
+ghost use Rattle.std.specs.Prelude.{◌≡◌, ◌≢◌, Err, if◌then◌else◌, drop, length, ◌≤◌, Option};
 ghost use Rattle.token_grammar.specs.Grammar.{starts, read};
 ghost use Rattle.token_grammar.specs.Reads.{Reads};
 ghost use Rattle.token_grammar.specs.Phrases.{is, word};
@@ -50,7 +50,8 @@ impl<'a> Cursor<'a> {
 
     /// Takes a token of this kind.
     pub fn expect(&mut self, kind: Kind) -> Result<(), Stop>
-        ensures { Reads (read (word kind) self.old.rest.now) result self.new.rest.now }
+        ensures exact { Reads (read (word kind) self.old.rest.now) result self.new.rest.now }
+        ensures takes_no_memory { result ≢ Err Stop.Memory }
     {
         match self.rest {
             [token, more @ ..] => {

@@ -1,19 +1,19 @@
 -- A token that is spelled before a blank is cut off again.
-use Rattle.std.proofs.Common.{◌≡◌, ℕ, suc, zero, ◌+◌, ◌-◌, ◌*◌, ◌≤◌, ◌<◌, ◌==◌, ◌%◌, Bool, true, false, cond, ◌&&◌, ◌||◌, not, List, [], ◌∷◌, ◌++◌, length, take, drop, take_while, map, Option, Some, None, refl, ap, sym, ◌∙◌, subst, arith, append_assoc, length-append, length-drop}
-use Rattle.std.specs.Prelude.{nat_le, nat_lt, if◌then◌else◌}
+use Rattle.std.proofs.Common.{◌≡◌, ℕ, suc, zero, ◌+◌, ◌-◌, ◌≤◌, ◌==◌, ◌%◌, Bool, true, false, cond, ◌&&◌, ◌||◌, List, [], ◌∷◌, ◌++◌, length, take, drop, take_while, Some, refl, ap, sym, ◌∙◌, arith, append_assoc, length-append, length-drop}
+use Rattle.std.specs.Prelude.{nat_le, if◌then◌else◌}
 use Rattle.std.specs.List.{list_all, prefix_len}
 use Rattle.std.specs.Str.{is_utf8}
 use Rattle.std.proofs.lemmas.Bool.{eqb-true, eq-eqb}
 use Rattle.std.proofs.Math.Seq.{take-append_seam}
-use Rattle.line_tokens.specs.declared.token.Kind.{Kind}
 use Rattle.line_tokens.specs.declared.token.Kind.TheVariants as k
 use Rattle.line_tokens.specs.declared.token.Token.{Token}
-use Rattle.line_tokens.specs.Tokens.{closing, undouble, is_blank, is_digit, is_hex, is_number, is_letter, is_bytes, digits_len, hex_len, token_at, tokens_in, tokens_of, made, taken, text_at, text_to, quoted_at, quoted_to, quoted_of, number_at, bytes_at, opens, is_quote}
-use Rattle.token_text.specs.Spelled.{doubled, all_doubled, quoted_by, spelling, spelled, IsCut, IsCutAt, AllCut}
+use Rattle.line_tokens.specs.Tokens.{closing, undouble, is_blank, is_digit, is_hex, is_letter, is_bytes, token_at, tokens_in, tokens_of}
+use Rattle.lake_types.specs.Texts.{all_doubled}
+use Rattle.token_text.specs.Spelled.{spelling, spelled, IsCut, IsCutAt, AllCut}
 
 -- ---- quotes
 
-double : ℕ → List ℕ → List ℕ
+unfoldable pub double : ℕ → List ℕ → List ℕ
 double quote [] = []
 double quote (b ∷ z) = if b == quote then b ∷ b ∷ double quote z else b ∷ double quote z
 
@@ -21,7 +21,7 @@ double_one : (quote b : ℕ) (y z : List ℕ) (t : Bool) → b == quote ≡ t �
 double_one quote b y z true e h = let i : b ≡ quote = eqb-true b quote e in ap (λ x. quote ∷ quote ∷ x) h ∙ ap (λ x. x ∷ x ∷ z) (sym i)
 double_one quote b y z false e h = ap (λ x. b ∷ x) h
 
-double_is : (quote : ℕ) (z : List ℕ) → all_doubled quote z ≡ double quote z
+pub double_is : (quote : ℕ) (z : List ℕ) → all_doubled quote z ≡ double quote z
 unfolding double
 double_is quote [] = refl
 double_is quote (b ∷ z) = double_one quote b (all_doubled quote z) (double quote z) (b == quote) refl (double_is quote z)
@@ -30,7 +30,7 @@ undouble_one : (quote b : ℕ) (z : List ℕ) (t : Bool) → b == quote ≡ t �
 undouble_one quote b z true e h = rw e (ap (λ x. b ∷ x) h)
 undouble_one quote b z false e h = rw e (ap (λ x. b ∷ x) h)
 
-undouble_double : (quote : ℕ) (z : List ℕ) → undouble quote false (double quote z) ≡ z
+pub undouble_double : (quote : ℕ) (z : List ℕ) → undouble quote false (double quote z) ≡ z
 unfolding double
 undouble_double quote [] = refl
 undouble_double quote (b ∷ z) = undouble_one quote b z (b == quote) refl (undouble_double quote z)
@@ -55,7 +55,7 @@ unfolding double
 closing_double quote c rest h [] n = closing_end quote c n rest h ∙ ap Some (omega arith)
 closing_double quote c rest h (b ∷ z) n = closing_one quote b c n z rest (b == quote) refl (closing_double quote c rest h z)
 
-take_all : {A : Type 0} (a b : List A) → take (length a) (a ++ b) ≡ a
+pub take_all : {A : Type 0} (a b : List A) → take (length a) (a ++ b) ≡ a
 take_all a b = take-append_seam a b
 
 drop_all : {A : Type 0} (a b : List A) → drop (length a) (a ++ b) ≡ b
@@ -179,9 +179,6 @@ enough (suc n) (suc m) (b ∷ rest) h g =
     enough_one n m b rest false h g = ap (λ x. (token_at b rest).0 ∷ x) g
 
 -- ---- one token behind the other
-
-blank_next : (n : ℕ) (rest : List ℕ) → tokens_in (suc n) (32 ∷ rest) ≡ tokens_in n rest
-blank_next n rest = refl
 
 cut_next : (t : Token) (b : ℕ) (s more : List ℕ) (n : ℕ) → is_blank b ≡ false → token_at b (s ++ 32 ∷ more) ≡ (t, length s)
     → tokens_in (suc n) (b ∷ (s ++ 32 ∷ more)) ≡ t ∷ tokens_in n (32 ∷ more)

@@ -1,5 +1,5 @@
 -- Keywords and signs are cut off again.
-use Rattle.std.proofs.Common.{◌≡◌, ℕ, List, refl, true}
+use Rattle.std.proofs.Common.{◌≡◌, refl, true}
 use Rattle.std.specs.Prelude.{codes}
 use Rattle.line_tokens.proofs.AsciiLemmas.{ascii_text}
 use Rattle.line_tokens.specs.Tokens.{keyword}

@@ -1,3 +1,4 @@
 pub mod CutLemmas
 pub mod FixedLemmas
 pub mod QuoteLemmas
+pub mod StandLemmas

@@ -3,7 +3,7 @@ use Rattle.std.proofs.Common.{◌≡◌, ℕ, suc, ◌<◌, ◌==◌, ◌∷◌,
 use Rattle.std.specs.List.{position_or_len, before_first, after_first}
 use Rattle.std.proofs.lemmas.Bool.{cases_Bool}
 use native.Mathlib.Numerals.{unary_clauses}
-use Rattle.token_text.specs.Spelled.{doubled, all_doubled}
+use Rattle.lake_types.specs.Texts.{all_doubled}
 
 pub doubled_none : (quote : ℕ) (s : List ℕ) → position_or_len (λ b. b == quote) s ≡ length s → all_doubled quote s ≡ s
 doubled_none quote [] h = refl

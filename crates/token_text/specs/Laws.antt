@@ -1,8 +1,9 @@
 -- What holds of tokens that are spelled.
-use Rattle.std.specs.Prelude.{ℕ, ◌≡◌, ◌&&◌, ◌==◌, ◌%◌, nat_le, true, List, [], ◌∷◌, length}
+use Rattle.std.specs.Prelude.{ℕ, ◌≡◌, ◌&&◌, ◌==◌, ◌%◌, nat_le, true, false, ◌⊎◌, List, [], ◌∷◌, ◌++◌, length, take, drop}
 use Rattle.std.specs.List.{list_all}
 use Rattle.std.specs.Str.{is_utf8}
-use Rattle.line_tokens.specs.Tokens.{is_digit, is_hex, tokens_of}
+use Rattle.lake_types.specs.Texts.{quoted_by}
+use Rattle.line_tokens.specs.Tokens.{Lexed, is_digit, is_hex, is_quote, opens, token_at, tokens_of}
 use Rattle.line_tokens.specs.declared.token.Kind.{Kind}
 use Rattle.line_tokens.specs.declared.token.Kind.TheVariants as k
 use Rattle.line_tokens.specs.declared.token.Token.{Token}
@@ -34,3 +35,20 @@ NumbersAreCut = (first : ℕ) (digits : List ℕ) → is_digit first ≡ true �
 abbrev pub NegativesAreCut : Type 0
 NegativesAreCut = (first : ℕ) (digits : List ℕ) → is_digit first ≡ true → list_all is_digit digits ≡ true → is_utf8 (45 ∷ first ∷ digits) ≡ true
     → IsCut (token_of k.Number (45 ∷ first ∷ digits))
+
+-- ---- what is cut off is spelled
+
+-- the bytes of a text or a quoted name are its spelling, which no quote follows, and those of bytes are theirs, with x or X
+abbrev pub StandsAs : Kind → List ℕ → List ℕ → List ℕ → Type 0
+StandsAs k.Text text front behind = (front ≡ quoted_by 39 text) × (opens is_quote behind ≡ false)
+StandsAs k.Quoted text front behind = (front ≡ quoted_by 34 text) × (opens (λ b. b == 34) behind ≡ false)
+StandsAs k.Bytes text front behind = (front ≡ 120 ∷ 39 ∷ (text ++ 39 ∷ [])) ⊎ (front ≡ 88 ∷ 39 ∷ (text ++ 39 ∷ []))
+StandsAs _ text front behind = Unit {0}
+
+-- this token stands before the rest, of which it takes so many bytes
+abbrev pub Stands : ℕ → List ℕ → Lexed → Type 0
+Stands b rest lexed = StandsAs lexed.0.kind lexed.0.text (b ∷ take lexed.1 rest) (drop lexed.1 rest)
+
+-- what is cut off as a text, a quoted name or bytes is spelled so in the line
+abbrev pub QuotedTokensStand : Type 0
+QuotedTokensStand = (b : ℕ) (rest : List ℕ) → Stands b rest (token_at b rest)

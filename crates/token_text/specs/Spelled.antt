@@ -1,19 +1,10 @@
 -- How tokens are spelled in a line: one behind the other, with a blank behind each.
-use Rattle.std.specs.Prelude.{ℕ, ◌≡◌, ◌==◌, Bool, true, false, List, [], ◌∷◌, ◌++◌, length, Option, Some, None, flat_map, if◌then◌else◌, codes}
+use Rattle.std.specs.Prelude.{ℕ, ◌≡◌, Bool, true, false, List, [], ◌∷◌, ◌++◌, length, Option, Some, None, codes}
+use Rattle.lake_types.specs.Texts.{quoted_by}
 use Rattle.line_tokens.specs.declared.token.Kind.{Kind}
 use Rattle.line_tokens.specs.declared.token.Kind.TheVariants as k
 use Rattle.line_tokens.specs.declared.token.Token.{Token}
 use Rattle.line_tokens.specs.Tokens.{is_blank, token_at}
-
--- a quote inside a quoted text is doubled
-abbrev pub doubled : ℕ → ℕ → List ℕ
-doubled quote b = if b == quote then quote ∷ quote ∷ [] else b ∷ []
-
-abbrev pub all_doubled : ℕ → List ℕ → List ℕ
-all_doubled quote text = flat_map (doubled quote) text
-
-abbrev pub quoted_by : ℕ → List ℕ → List ℕ
-quoted_by quote text = quote ∷ (all_doubled quote text ++ quote ∷ [])
 
 abbrev pub sign_text : Kind → Option (List ℕ)
 sign_text k.LeftParen = Some (40 ∷ [])

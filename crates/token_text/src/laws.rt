@@ -1,6 +1,6 @@
 //! What holds of tokens that are spelled. Each function's contract is a law, and its body is empty.
 
-ghost use Rattle.token_text.specs.Laws.{AreCutAgain, BytesAreCut, KeywordsAreCut, NamesAreCut, NegativesAreCut, NumbersAreCut, TextsAreCut};
+ghost use Rattle.token_text.specs.Laws.{AreCutAgain, BytesAreCut, KeywordsAreCut, NamesAreCut, NegativesAreCut, NumbersAreCut, QuotedTokensStand, TextsAreCut};
 
 /// The line that spells tokens has these tokens, where each of them is cut off its own spelling.
 pub fn spelled_tokens_are_cut_again()
@@ -15,4 +15,9 @@ pub fn forms_are_cut()
     ensures bytes { BytesAreCut }
     ensures numbers { NumbersAreCut }
     ensures negatives { NegativesAreCut }
+{}
+
+/// What is cut off as a text, a quoted name or bytes is spelled so in the line.
+pub fn quoted_tokens_stand()
+    ensures { QuotedTokensStand }
 {}

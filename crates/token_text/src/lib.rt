@@ -4,7 +4,7 @@
 mod laws;
 mod spelling;
 
-pub use laws::{forms_are_cut, spelled_tokens_are_cut_again};
+pub use laws::{forms_are_cut, quoted_tokens_stand, spelled_tokens_are_cut_again};
 pub use spelling::spell;
 
 #[cfg(test)]

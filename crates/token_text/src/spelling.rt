@@ -1,5 +1,6 @@
 ghost use Rattle.std.specs.Prelude.{◌≡◌, ◌∷◌, ◌++◌, ◌<◌, [], length, IfOk, IfSome, MatchOption, OnOk, None};
 ghost use Rattle.std.specs.String.{string_bytes};
+ghost use Rattle.lake_types.specs.Texts.{all_doubled, quoted_by};
 ghost use Rattle.token_text.specs.Spelled as spec;
 
 use lake_types::Words;
@@ -30,9 +31,9 @@ fn sign_text(kind: Kind) -> Option<&'static str>
 /// The text before and after its first such character.
 fn at_first(mark: char, text: &str) -> Option<(&str, &str)>
     requires { mark < 128 }
-    ensures doubled { IfSome result (λ x. spec.all_doubled mark text.now ≡ x.0.now ++ mark ∷ mark ∷ spec.all_doubled mark x.1.now) }
+    ensures doubled { IfSome result (λ x. all_doubled mark text.now ≡ x.0.now ++ mark ∷ mark ∷ all_doubled mark x.1.now) }
     ensures shorter { IfSome result (λ x. length x.1.now < length text.now) }
-    ensures none { result ≡ None → spec.all_doubled mark text.now ≡ text.now }
+    ensures none { result ≡ None → all_doubled mark text.now ≡ text.now }
 {
     text.split_once(mark)
 }
@@ -41,7 +42,7 @@ fn at_first(mark: char, text: &str) -> Option<(&str, &str)>
 fn put_doubled(line: &mut String, mark: char, pair: &str, text: &str) -> Result<(), AllocError>
     requires ascii { mark < 128 }
     requires pair { pair.now ≡ mark ∷ mark ∷ [] }
-    ensures { OnOk result (string_bytes line.new ≡ string_bytes line.old ++ spec.all_doubled mark text.now) }
+    ensures { OnOk result (string_bytes line.new ≡ string_bytes line.old ++ all_doubled mark text.now) }
 {
     let mut rest = text;
     while let Some((before, after)) = at_first(mark, rest) {
@@ -54,7 +55,7 @@ fn put_doubled(line: &mut String, mark: char, pair: &str, text: &str) -> Result<
 }
 
 fn put_name(line: &mut String, name: &str) -> Result<(), AllocError>
-    ensures { OnOk result (string_bytes line.new ≡ string_bytes line.old ++ spec.quoted_by 34 name.now) }
+    ensures { OnOk result (string_bytes line.new ≡ string_bytes line.old ++ quoted_by 34 name.now) }
 {
     line.push_str("\"")?;
     put_doubled(line, '"', "\"\"", name)?;
@@ -63,7 +64,7 @@ fn put_name(line: &mut String, name: &str) -> Result<(), AllocError>
 }
 
 fn put_text(line: &mut String, text: &str) -> Result<(), AllocError>
-    ensures { OnOk result (string_bytes line.new ≡ string_bytes line.old ++ spec.quoted_by 39 text.now) }
+    ensures { OnOk result (string_bytes line.new ≡ string_bytes line.old ++ quoted_by 39 text.now) }
 {
     line.push_str("'")?;
     put_doubled(line, '\'', "''", text)?;

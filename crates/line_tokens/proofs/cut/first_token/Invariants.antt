@@ -1,4 +1,4 @@
-use Rattle.std.proofs.Common.{◌≡◌, ◌≤◌, length}
+use Rattle.std.proofs.Common.{◌≡◌, length}
 use Rattle.line_tokens.specs.Tokens.{tokens_in, first_of}
 use Rattle.line_tokens.proofs.cut.first_token.Given as goal
 

@@ -1,5 +1,4 @@
-use Rattle.std.proofs.Common.{◌≡◌, ◌<◌, ◌++◌, ◌∷◌, length, arith, rules, None}
-use Rattle.token_text.specs.Spelled.{all_doubled}
+use Rattle.std.proofs.Common.{rules}
 use Rattle.token_text.proofs.QuoteLemmas.{doubled_first, doubled_none}
 use Rattle.token_text.proofs.spelling.at_first.Goals as goal
 

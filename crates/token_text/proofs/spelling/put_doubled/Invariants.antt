@@ -1,7 +1,7 @@
 use Rattle.std.proofs.Common.{◌≡◌, ◌++◌, length}
 use Rattle.std.specs.Str.{IsUtf8}
 use Rattle.std.specs.String.{string_bytes}
-use Rattle.token_text.specs.Spelled.{all_doubled}
+use Rattle.lake_types.specs.Texts.{all_doubled}
 use Rattle.token_text.proofs.spelling.put_doubled.Given as goal
 
 -- what is put so far and what is to come are all
