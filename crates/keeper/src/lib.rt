@@ -4,6 +4,8 @@
 mod fault;
 mod keeper_trait;
 mod mem_keeper;
+#[cfg(test)]
+mod row_tests;
 mod sure_keeper;
 #[cfg(test)]
 mod tests;
