@@ -139,6 +139,30 @@ fn a_chunk_past_the_end(rt: HostRuntime) {
 }
 
 #[test]
+fn a_number_out_of_range(rt: HostRuntime) {
+    // A column of INT_8 in INT32, whose first cell is 263.
+    let mut file = changed(53, 2);
+    file[59] = 0x25;
+    file[60] = 0x1e;
+    file[30] = 1;
+    let read = read_file(rt.alloc(), &file);
+    assert!(rt; matches!(read, Err(FileFault::BadCell { column: 0, row: 0 })));
+}
+
+/// A file of no columns, and of one group of 4,194,305 rows.
+const MANY_ROWS: [u8; 35] = [
+    0x50, 0x41, 0x52, 0x31, 0x15, 0x02, 0x19, 0x1c, 0x48, 0x00, 0x00, 0x16, 0x82, 0x80, 0x80, 0x04,
+    0x19, 0x1c, 0x19, 0x0c, 0x26, 0x82, 0x80, 0x80, 0x04, 0x00, 0x00, 0x17, 0x00, 0x00, 0x00, 0x50,
+    0x41, 0x52, 0x31,
+];
+
+#[test]
+fn too_many_rows(rt: HostRuntime) {
+    let read = read_file(rt.alloc(), &MANY_ROWS);
+    assert!(rt; matches!(read, Err(FileFault::TooManyRows { rows: 4_194_305 })));
+}
+
+#[test]
 fn changes_of_one_byte_are_answered(rt: HostRuntime) {
     let alloc = rt.alloc();
     for at in 0..107 {

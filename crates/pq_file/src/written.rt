@@ -133,3 +133,44 @@ fn a_required_column_has_no_null(rt: HostRuntime) -> Result<(), Fail> {
     assert!(rt; !is_writable(&sheet_of(alloc, ColType::Bool, false, cells)?));
     Ok(())
 }
+
+/// A boolean column `a` with the field id 1 and a column `b` of numbers with the field id 2, of one row.
+fn two_columns(alloc: Global) -> Result<Sheet, NoMemory> {
+    let mut truths = ValueList::new(alloc);
+    truths.push(Value::Bool(true))?;
+    let mut sheet = sheet_of(alloc, ColType::Bool, true, truths)?;
+    let mut numbers = ValueList::new(alloc);
+    numbers.push(Value::Int(5))?;
+    sheet.columns.push(SheetColumn {
+        field: Some(2),
+        name: Words::of(alloc, "b")?,
+        ty: ColType::Int32,
+        optional: false,
+        cells: numbers,
+    })?;
+    Ok(sheet)
+}
+
+fn is_first(sheet: &Sheet) -> bool {
+    let [column] = sheet.columns.as_slice() else {
+        return false;
+    };
+    column.name.as_str() == "a" && matches!(column.cells.as_slice(), [Value::Bool(true)])
+}
+
+fn is_second(sheet: &Sheet) -> bool {
+    let [column] = sheet.columns.as_slice() else {
+        return false;
+    };
+    column.name.as_str() == "b" && matches!(column.cells.as_slice(), [Value::Int(5)])
+}
+
+#[test]
+fn one_column_of_two(rt: HostRuntime) -> Result<(), Fail> {
+    let alloc = rt.alloc();
+    let file = file_of(alloc, &two_columns(alloc)?)?;
+    assert!(rt; read_file(alloc, &file)?.columns.len() == 2);
+    assert!(rt; is_first(&read_columns(alloc, &file, &[1])?));
+    assert!(rt; is_second(&read_columns(alloc, &file, &[2])?));
+    Ok(())
+}

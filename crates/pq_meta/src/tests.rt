@@ -1,6 +1,6 @@
 use super::*;
 use lake_types::{ColType, Listed, Words};
-use std::alloc::Global;
+use std::alloc::{AllocError, Global};
 use std::test::*;
 use thrift_compact::ThriftFault;
 
@@ -133,13 +133,19 @@ fn missing_fields(rt: HostRuntime) {
 }
 
 #[test]
+fn counts(rt: HostRuntime) {
+    // The root's children, the rows of the file, the values of the chunk, the rows of the group.
+    for (at, byte, stated, found) in [(13, 4, 2, 1), (26, 6, 3, 2), (47, 6, 2, 3), (59, 6, 3, 2)] {
+        assert!(rt;
+            is_count(read_changed(rt.alloc(), at, byte), stated, found),
+            "byte {at}"
+        );
+    }
+}
+
+#[test]
 fn other_faults(rt: HostRuntime) {
     let alloc = rt.alloc();
-    // The root's children, the rows of the file, the values of the chunk, the rows of the group.
-    assert!(rt; is_count(read_changed(alloc, 13, 4), 2, 1));
-    assert!(rt; is_count(read_changed(alloc, 26, 6), 3, 2));
-    assert!(rt; is_count(read_changed(alloc, 47, 6), 2, 3));
-    assert!(rt; is_count(read_changed(alloc, 59, 6), 3, 2));
     // A negative number of rows, and the bytes without their last stop.
     assert!(rt; is_thrift(read_changed(alloc, 26, 3), ThriftFault::TooWide { at: 26 }));
     assert!(rt;
@@ -148,11 +154,17 @@ fn other_faults(rt: HostRuntime) {
             ThriftFault::Short { at: 61 }
         )
     );
-    // A repeated column, one with a child, an INT96, and a map's key.
-    assert!(rt; is_nested(read_changed(alloc, 18, 4)));
-    assert!(rt; is_nested(read_changed(alloc, 22, 0x15)));
-    assert!(rt; is_unknown_type(read_changed(alloc, 16, 6), 3));
-    assert!(rt; is_unknown_type(read_changed(alloc, 22, 0x25), 2));
+    // A repeated column, and one with a child.
+    for (at, byte) in [(18, 4), (22, 0x15)] {
+        assert!(rt; is_nested(read_changed(alloc, at, byte)), "byte {at}");
+    }
+    // An INT96, and a map's key.
+    for (at, byte, physical) in [(16, 6, 3), (22, 0x25, 2)] {
+        assert!(rt;
+            is_unknown_type(read_changed(alloc, at, byte), physical),
+            "byte {at}"
+        );
+    }
 }
 
 #[test]
@@ -174,6 +186,24 @@ fn faults_of_bytes(rt: HostRuntime) {
     }
 }
 
+/// The footer with its group twice, and with another number of rows.
+fn read_two_groups(alloc: Global, rows: u8) -> Result<FileMeta, MetaFault> {
+    let mut footer = Vec::new(alloc);
+    footer.extend_from_slice(&FOOTER[..26])?;
+    footer.extend_from_slice(&[2 * (rows % 8), 0x19, 0x2c])?;
+    footer.extend_from_slice(&FOOTER[29..61])?;
+    footer.extend_from_slice(&FOOTER[29..])?;
+    read_meta(alloc, footer.as_slice())
+}
+
+#[test]
+fn two_groups(rt: HostRuntime) -> Result<(), Fail> {
+    let meta = read_two_groups(rt.alloc(), 4)?;
+    assert!(rt; meta.num_rows == 4 && meta.groups.len() == 2);
+    assert!(rt; is_count(read_two_groups(rt.alloc(), 2), 2, 4));
+    Ok(())
+}
+
 /// The footer with other bytes in place of its column's element.
 fn read_element(alloc: Global, element: &[u8]) -> Result<FileMeta, MetaFault> {
     let mut footer = Vec::new(alloc);
@@ -183,49 +213,86 @@ fn read_element(alloc: Global, element: &[u8]) -> Result<FileMeta, MetaFault> {
     read_meta(alloc, footer.as_slice())
 }
 
-/// The type of a column with this physical type, whose element has these fields behind its name.
-fn type_of(alloc: Global, physical: u8, fields: &[u8]) -> Result<Option<ColType>, MetaFault> {
+/// Whether a column with this physical type, whose element has these fields behind its name, is of a type; of none, if it
+/// is refused.
+fn is_type(alloc: Global, physical: u8, fields: &[u8], ty: Option<ColType>) -> bool {
+    let Ok(element) = element_of(alloc, physical, fields) else {
+        return false;
+    };
+    match read_element(alloc, element.as_slice()) {
+        Ok(meta) => meta.columns.as_slice().first().map(|column| column.ty) == ty,
+        Err(MetaFault::UnknownType { code }) => code == i32::from(physical) && ty.is_none(),
+        Err(_) => false,
+    }
+}
+
+fn element_of(alloc: Global, physical: u8, fields: &[u8]) -> Result<Vec<u8>, AllocError> {
     let mut element = Vec::new(alloc);
     element.extend_from_slice(&[0x15, 2 * (physical % 8), 0x25, 2, 0x18, 1, 0x61])?;
     element.extend_from_slice(fields)?;
-    match read_element(alloc, element.as_slice()) {
-        Ok(meta) => Ok(meta.columns.as_slice().first().map(|column| column.ty)),
-        Err(MetaFault::UnknownType { code }) if code == i32::from(physical) => Ok(None),
-        Err(fault) => Err(fault),
+    Ok(element)
+}
+
+#[test]
+fn types_without_logical_types(rt: HostRuntime) {
+    let rows: [(u8, &[u8], Option<ColType>); 5] = [
+        (1, &[0], Some(ColType::Int32)),
+        (6, &[0], Some(ColType::Blob)),
+        (0, &[0x25, 0, 0], Some(ColType::Bool)),
+        (2, &[0x25, 36, 0], Some(ColType::Int64)),
+        (6, &[0x25, 0, 0], Some(ColType::Varchar)),
+    ];
+    for (physical, fields, ty) in rows {
+        assert!(rt; is_type(rt.alloc(), physical, fields, ty));
     }
 }
 
 #[test]
-fn types(rt: HostRuntime) -> Result<(), Fail> {
-    let rows: [(u8, &[u8], Option<ColType>); 17] = [
-        (0, &[0x25, 0, 0], Some(ColType::Bool)),
-        (1, &[0], Some(ColType::Int32)),
-        (1, &[0x25, 12, 0], Some(ColType::Date)),
-        (1, &[0x25, 30, 0], Some(ColType::Int8)),
-        (1, &[0x25, 32, 0], Some(ColType::Int16)),
-        (1, &[0x25, 34, 0], Some(ColType::Int32)),
-        (1, &[0x25, 36, 0], None),
-        (2, &[0x25, 36, 0], Some(ColType::Int64)),
-        (6, &[0], Some(ColType::Blob)),
-        (6, &[0x25, 0, 0], Some(ColType::Varchar)),
-        // Logical types: a STRING, none, a DATE behind a STRING.
+fn types_of_int32(rt: HostRuntime) {
+    let rows = [
+        (12, Some(ColType::Date)),
+        (30, Some(ColType::Int8)),
+        (32, Some(ColType::Int16)),
+        (34, Some(ColType::Int32)),
+        (36, None),
+    ];
+    for (converted, ty) in rows {
+        assert!(rt;
+            is_type(rt.alloc(), 1, &[0x25, converted, 0], ty),
+            "{converted}"
+        );
+    }
+}
+
+#[test]
+fn logical_types(rt: HostRuntime) {
+    // A STRING, none, a DATE behind a STRING, and one that is not known behind a STRING.
+    let rows: [(u8, &[u8], Option<ColType>); 4] = [
         (6, &[0x6c, 0x1c, 0, 0, 0], Some(ColType::Varchar)),
         (6, &[0x6c, 0, 0], None),
         (1, &[0x6c, 0x1c, 0, 0x5c, 0, 0, 0], Some(ColType::Date)),
-        // INTEGER: of 8 signed bits behind INT_16, unsigned, without a sign, without a width.
+        (6, &[0x6c, 0x1c, 0, 0x2c, 0, 0, 0], None),
+    ];
+    for (physical, fields, ty) in rows {
+        assert!(rt; is_type(rt.alloc(), physical, fields, ty));
+    }
+}
+
+#[test]
+fn logical_integers(rt: HostRuntime) {
+    // Of 8 signed bits, unsigned, without a sign, without a width; each beside the converted type INT_16.
+    let rows: [(&[u8], Option<ColType>); 4] = [
         (
-            1,
             &[0x25, 32, 0x4c, 0xac, 0x13, 8, 0x11, 0, 0, 0],
             Some(ColType::Int8),
         ),
-        (1, &[0x25, 32, 0x4c, 0xac, 0x13, 8, 0x12, 0, 0, 0], None),
-        (1, &[0x25, 32, 0x4c, 0xac, 0x13, 8, 0, 0, 0], None),
-        (1, &[0x25, 32, 0x4c, 0xac, 0x21, 0, 0, 0], None),
+        (&[0x25, 32, 0x4c, 0xac, 0x13, 8, 0x12, 0, 0, 0], None),
+        (&[0x25, 32, 0x4c, 0xac, 0x13, 8, 0, 0, 0], None),
+        (&[0x25, 32, 0x4c, 0xac, 0x21, 0, 0, 0], None),
     ];
-    for (physical, fields, ty) in rows {
-        assert_eq!(rt; type_of(rt.alloc(), physical, fields)?, ty);
+    for (fields, ty) in rows {
+        assert!(rt; is_type(rt.alloc(), 1, fields, ty));
     }
-    Ok(())
 }
 
 /// A footer of two columns and no rows. Both columns have the field id 1.
@@ -235,21 +302,22 @@ const TWO_COLUMNS: [u8; 41] = [
     0x55, 0x02, 0x00, 0x16, 0x00, 0x19, 0x0c, 0x00, 0x00,
 ];
 
-/// The field ids of its columns, with another byte in place of the second one's.
-fn second_field(alloc: Global, id: u8) -> Result<(Option<u32>, Option<u32>), MetaFault> {
+/// Whether its first column has the field id 1 and its second this one, with another byte in place of the second one's.
+fn is_second_field(alloc: Global, byte: u8, field: Option<u32>) -> bool {
     let mut footer = TWO_COLUMNS;
-    footer[33] = id;
-    let meta = read_meta(alloc, &footer)?;
+    footer[33] = byte;
+    let Ok(meta) = read_meta(alloc, &footer) else {
+        return false;
+    };
     match meta.columns.as_slice() {
-        [a, b] => Ok((a.field, b.field)),
-        _ => Err(MetaFault::Memory),
+        [a, b] => a.field == Some(1) && b.field == field,
+        _ => false,
     }
 }
 
 #[test]
-fn field_ids(rt: HostRuntime) -> Result<(), Fail> {
-    assert_eq!(rt; second_field(rt.alloc(), 2)?, (Some(1), None));
-    assert_eq!(rt; second_field(rt.alloc(), 4)?, (Some(1), Some(2)));
-    assert_eq!(rt; second_field(rt.alloc(), 1)?, (Some(1), None));
-    Ok(())
+fn field_ids(rt: HostRuntime) {
+    for (byte, field) in [(2, None), (4, Some(2)), (1, None)] {
+        assert!(rt; is_second_field(rt.alloc(), byte, field), "{byte}");
+    }
 }
