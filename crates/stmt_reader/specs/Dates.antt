@@ -7,7 +7,7 @@ use Rattle.lake_types.specs.Calendar.{day_text}
 abbrev pub day_number : ℕ → ℤ
 day_number n = neg_ℤ (pos 719162) +ℤ pos n
 
--- the last of the first days that has this text, as 2024-02-29
+-- of the first n days the last one with this text, as 2024-02-29
 unfoldable pub day_among : ℕ → List ℕ → Option ℤ
 day_among zero text = None
 day_among (suc n) text = if bytes_eq (day_text (day_number n)) text then Some (day_number n) else day_among n text

@@ -8,12 +8,11 @@ use Rattle.std.specs.Str.{IsUtf8}
 use Rattle.std.proofs.lemmas.Str.{is_utf8-from_IsUtf8}
 use Rattle.std.proofs.lemmas.List.Folds.{list_all-append}
 use Rattle.hex.specs.Hex.{IsBytes, encode_lower, encode_with, lower_digits}
-use Rattle.line_tokens.specs.Tokens.{is_hex}
+use Rattle.line_tokens.specs.Tokens.{is_hex, the_word}
 use Rattle.line_tokens.specs.declared.token.Kind.{Kind}
 use Rattle.line_tokens.specs.declared.token.Kind.TheVariants as k
 use Rattle.line_tokens.specs.declared.token.Token.{Token}
 use Rattle.token_text.specs.Laws.{token_of}
-use Rattle.token_text.specs.Spelled.{the_word}
 use Rattle.stmt_text.specs.Printed.{has_digits, is_typed}
 
 pub word_digits : (a : Kind) → has_digits a (the_word a) ≡ true

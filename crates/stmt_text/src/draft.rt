@@ -4,68 +4,13 @@ ghost use Rattle.std.specs.String.{string_bytes};
 ghost use Rattle.hex.specs.Hex.{encode_lower};
 ghost use Rattle.line_tokens.specs.Tokens.{is_hex};
 ghost use Rattle.token_text.specs.Laws.{token_of};
-ghost use Rattle.token_text.specs.Spelled.{fixed, the_word};
+ghost use Rattle.token_text.specs.Spelled.{fixed};
 ghost use Rattle.stmt_text.specs.Printed as spec;
 
 use hex::encode;
 use lake_types::{Listed, Words};
-use line_tokens::{Kind, Token, TokenList};
+use line_tokens::{Kind, Token, TokenList, word_of};
 use std::alloc::{AllocError, Global};
-
-fn word_of(kind: Kind) -> &'static str
-    ensures { result.now ≡ the_word kind }
-{
-    match kind {
-        Kind::And => "AND",
-        Kind::Default => "DEFAULT",
-        Kind::False => "FALSE",
-        Kind::From => "FROM",
-        Kind::Is => "IS",
-        Kind::Not => "NOT",
-        Kind::Null => "NULL",
-        Kind::Or => "OR",
-        Kind::RowId => "ROWID",
-        Kind::Select => "SELECT",
-        Kind::Set => "SET",
-        Kind::Table => "TABLE",
-        Kind::To => "TO",
-        Kind::True => "TRUE",
-        Kind::Values => "VALUES",
-        Kind::Where => "WHERE",
-        Kind::Add => "ADD",
-        Kind::Alter => "ALTER",
-        Kind::At => "AT",
-        Kind::Begin => "BEGIN",
-        Kind::BigInt => "BIGINT",
-        Kind::Blob => "BLOB",
-        Kind::Boolean => "BOOLEAN",
-        Kind::Clean => "CLEAN",
-        Kind::Column => "COLUMN",
-        Kind::Commit => "COMMIT",
-        Kind::Compact => "COMPACT",
-        Kind::Create => "CREATE",
-        Kind::Data => "DATA",
-        Kind::Date => "DATE",
-        Kind::Delete => "DELETE",
-        Kind::Drop => "DROP",
-        Kind::Expire => "EXPIRE",
-        Kind::Flush => "FLUSH",
-        Kind::Insert => "INSERT",
-        Kind::Integer => "INTEGER",
-        Kind::Into => "INTO",
-        Kind::Rename => "RENAME",
-        Kind::Rollback => "ROLLBACK",
-        Kind::Schema => "SCHEMA",
-        Kind::SmallInt => "SMALLINT",
-        Kind::Snapshots => "SNAPSHOTS",
-        Kind::TinyInt => "TINYINT",
-        Kind::Type => "TYPE",
-        Kind::Update => "UPDATE",
-        Kind::Varchar => "VARCHAR",
-        Kind::Version => "VERSION",
-        _ => "",
-    }
-}
 
 /// The tokens of a line so far.
 #[derive(Drop)]

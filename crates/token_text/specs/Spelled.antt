@@ -1,10 +1,10 @@
 -- How tokens are spelled in a line: one behind the other, with a blank behind each.
-use Rattle.std.specs.Prelude.{ℕ, ◌≡◌, Bool, true, false, List, [], ◌∷◌, ◌++◌, length, Option, Some, None, codes}
+use Rattle.std.specs.Prelude.{ℕ, ◌≡◌, Bool, true, false, List, [], ◌∷◌, ◌++◌, length, Option, Some, None}
 use Rattle.lake_types.specs.Texts.{quoted_by}
 use Rattle.line_tokens.specs.declared.token.Kind.{Kind}
 use Rattle.line_tokens.specs.declared.token.Kind.TheVariants as k
 use Rattle.line_tokens.specs.declared.token.Token.{Token}
-use Rattle.line_tokens.specs.Tokens.{is_blank, token_at}
+use Rattle.line_tokens.specs.Tokens.{is_blank, the_word, token_at}
 
 abbrev pub sign_text : Kind → Option (List ℕ)
 sign_text k.LeftParen = Some (40 ∷ [])
@@ -52,58 +52,7 @@ abbrev pub AllCut : List Token → Type 0
 AllCut [] = Unit {0}
 AllCut (t ∷ ts) = IsCut t × AllCut ts
 
--- a keyword as it is printed; a sign has no text
-abbrev pub the_word : Kind → List ℕ
-the_word k.And = codes "AND"
-the_word k.Default = codes "DEFAULT"
-the_word k.False = codes "FALSE"
-the_word k.From = codes "FROM"
-the_word k.Is = codes "IS"
-the_word k.Not = codes "NOT"
-the_word k.Null = codes "NULL"
-the_word k.Or = codes "OR"
-the_word k.RowId = codes "ROWID"
-the_word k.Select = codes "SELECT"
-the_word k.Set = codes "SET"
-the_word k.Table = codes "TABLE"
-the_word k.To = codes "TO"
-the_word k.True = codes "TRUE"
-the_word k.Values = codes "VALUES"
-the_word k.Where = codes "WHERE"
-the_word k.Add = codes "ADD"
-the_word k.Alter = codes "ALTER"
-the_word k.At = codes "AT"
-the_word k.Begin = codes "BEGIN"
-the_word k.BigInt = codes "BIGINT"
-the_word k.Blob = codes "BLOB"
-the_word k.Boolean = codes "BOOLEAN"
-the_word k.Clean = codes "CLEAN"
-the_word k.Column = codes "COLUMN"
-the_word k.Commit = codes "COMMIT"
-the_word k.Compact = codes "COMPACT"
-the_word k.Create = codes "CREATE"
-the_word k.Data = codes "DATA"
-the_word k.Date = codes "DATE"
-the_word k.Delete = codes "DELETE"
-the_word k.Drop = codes "DROP"
-the_word k.Expire = codes "EXPIRE"
-the_word k.Flush = codes "FLUSH"
-the_word k.Insert = codes "INSERT"
-the_word k.Integer = codes "INTEGER"
-the_word k.Into = codes "INTO"
-the_word k.Rename = codes "RENAME"
-the_word k.Rollback = codes "ROLLBACK"
-the_word k.Schema = codes "SCHEMA"
-the_word k.SmallInt = codes "SMALLINT"
-the_word k.Snapshots = codes "SNAPSHOTS"
-the_word k.TinyInt = codes "TINYINT"
-the_word k.Type = codes "TYPE"
-the_word k.Update = codes "UPDATE"
-the_word k.Varchar = codes "VARCHAR"
-the_word k.Version = codes "VERSION"
-the_word _ = []
-
--- the token of a keyword or a sign
+-- the token of a keyword as it is printed, or of a sign, which has no text
 abbrev pub fixed : Kind → Token
 fixed a = record { kind = a; text = the_word a }
 
