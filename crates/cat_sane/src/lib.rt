@@ -6,4 +6,5 @@ mod sane;
 #[cfg(test)]
 mod tests;
 
+pub use cat_rules::BadRow;
 pub use sane::first_bad_row;

@@ -22,6 +22,8 @@ enum Further {
     ManyNulls,
     /// A row whose cells can't be read.
     BadCells,
+    /// Statistics of a table that isn't there, with a counter past its last value.
+    LoneStats,
 }
 
 /// What one test changes of a sane catalogue.
@@ -131,7 +133,7 @@ fn stats(plan: Plan) -> CatRow {
     CatRow::TableStats(TableStatsRow {
         table_id: plan.stats_table,
         record_count: 0,
-        next_row_id: 0,
+        next_row_id: 1,
         next_field_id: 2,
         file_size_bytes: 0,
     })
@@ -219,6 +221,16 @@ fn bad_cells(alloc: Global) -> Result<CatRow, NoMemory> {
     }))
 }
 
+fn lone_stats() -> CatRow {
+    CatRow::TableStats(TableStatsRow {
+        table_id: 0,
+        record_count: 0,
+        next_row_id: (1 << 62) + 1,
+        next_field_id: 1,
+        file_size_bytes: 0,
+    })
+}
+
 fn add_further(alloc: Global, adds: &mut CatRowList, further: Further) -> Result<(), NoMemory> {
     match further {
         Further::Nothing => {}
@@ -230,25 +242,27 @@ fn add_further(alloc: Global, adds: &mut CatRowList, further: Further) -> Result
             adds.push(many_nulls())?;
         }
         Further::BadCells => adds.push(bad_cells(alloc)?)?,
+        Further::LoneStats => adds.push(lone_stats())?,
     }
     Ok(())
 }
 
-/// The catalogue of these rows.
-fn stored(alloc: Global, adds: CatRowList) -> Result<CatRows, NoMemory> {
+/// The catalogue of these rows, if they fit one.
+fn stored(alloc: Global, adds: CatRowList) -> Result<Option<CatRows>, NoMemory> {
     let batch = Batch {
         removes: Listed::new(alloc),
         ends: Listed::new(alloc),
         adds,
     };
     let mut rows = CatRows::empty(alloc);
-    if fits_batch(&rows, &batch) {
-        apply_batch(alloc, &mut rows, &batch)?;
+    if !fits_batch(&rows, &batch) {
+        return Ok(None);
     }
-    Ok(rows)
+    apply_batch(alloc, &mut rows, &batch)?;
+    Ok(Some(rows))
 }
 
-fn catalogue(alloc: Global, plan: Plan) -> Result<CatRows, NoMemory> {
+fn catalogue(alloc: Global, plan: Plan) -> Result<Option<CatRows>, NoMemory> {
     let mut adds = Listed::new(alloc);
     add_history(alloc, &mut adds, plan)?;
     add_changes(alloc, &mut adds, plan)?;
@@ -268,7 +282,9 @@ struct Case {
 
 /// Whether this is told of a catalogue.
 fn is_told(alloc: Global, case: Case) -> Result<bool, NoMemory> {
-    let rows = catalogue(alloc, case.plan)?;
+    let Some(rows) = catalogue(alloc, case.plan)? else {
+        return Ok(false);
+    };
     match first_bad_row(alloc, &rows)? {
         Some(bad) => Ok(
             bad.rule == case.rule
@@ -279,8 +295,16 @@ fn is_told(alloc: Global, case: Case) -> Result<bool, NoMemory> {
     }
 }
 
+/// Whether there is a catalogue, and it breaks no rule.
+fn is_sane(alloc: Global, stored: Option<CatRows>) -> Result<bool, NoMemory> {
+    match stored {
+        Some(rows) => Ok(first_bad_row(alloc, &rows)?.is_none()),
+        None => Ok(false),
+    }
+}
+
 /// The rows of a new lake.
-fn snapshot_0(alloc: Global) -> Result<CatRows, NoMemory> {
+fn snapshot_0(alloc: Global) -> Result<Option<CatRows>, NoMemory> {
     let mut adds = Listed::new(alloc);
     adds.push(layout(alloc, SANE)?)?;
     adds.push(snapshot(0, 1))?;
@@ -292,16 +316,25 @@ fn snapshot_0(alloc: Global) -> Result<CatRows, NoMemory> {
 #[test]
 fn snapshot_0_breaks_no_rule(rt: HostRuntime) -> Result<(), Fail> {
     let rows = snapshot_0(rt.alloc())?;
-    assert_eq!(rt; rows.schema().len(), 1);
-    assert_eq!(rt; first_bad_row(rt.alloc(), &rows)?.is_none(), true);
+    assert_eq!(rt; is_sane(rt.alloc(), rows)?, true);
     Ok(())
 }
 
 #[test]
 fn a_sane_catalogue_breaks_no_rule(rt: HostRuntime) -> Result<(), Fail> {
     let rows = catalogue(rt.alloc(), SANE)?;
-    assert_eq!(rt; rows.column().len(), 2);
-    assert_eq!(rt; first_bad_row(rt.alloc(), &rows)?.is_none(), true);
+    assert_eq!(rt; is_sane(rt.alloc(), rows)?, true);
+    Ok(())
+}
+
+#[test]
+fn statistics_without_a_table_break_no_rule(rt: HostRuntime) -> Result<(), Fail> {
+    let plan = Plan {
+        further: Further::LoneStats,
+        ..SANE
+    };
+    let rows = catalogue(rt.alloc(), plan)?;
+    assert_eq!(rt; is_sane(rt.alloc(), rows)?, true);
     Ok(())
 }
 
