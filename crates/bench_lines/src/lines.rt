@@ -14,7 +14,7 @@ pub struct Script {
     pub ends: Vec<usize>,
 }
 
-/// Adds one row, as `(1000005, 'text of row 5', DATE '2024-01-06')`.
+/// Adds one row. Row 5 of line 3 is `(35, 'text of row 35', DATE '2024-01-06')`.
 fn add_row(alloc: Global, text: &mut String, line: u32, row: u32) -> Result<(), AllocError> {
     let sep = if row == 0 { "" } else { ", " };
     let number = u64::from(line) * u64::from(ROWS) + u64::from(row);

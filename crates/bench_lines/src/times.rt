@@ -17,10 +17,11 @@ fn nanos_since(rt: &impl Clock, start: &Instant) -> Result<u64> {
     Ok(u64::try_from(nanos).unwrap_or(u64::MAX))
 }
 
-fn reading_time(rt: &impl Clock, alloc: Global, script: &Script) -> Result<u64> {
+/// The time, and how many lines were read.
+fn reading_time(rt: &impl Clock, alloc: Global, script: &Script) -> Result<(u64, usize)> {
     let start = Instant::now(rt)?;
-    let _said = count_said(alloc, script);
-    nanos_since(rt, &start)
+    let said = count_said(alloc, script);
+    Ok((nanos_since(rt, &start)?, said))
 }
 
 fn cutting_time(rt: &impl Clock, alloc: Global, script: &Script) -> Result<u64> {
@@ -35,22 +36,25 @@ fn copy_time(rt: &impl Clock, alloc: Global, bytes: &[u8]) -> Result<u64> {
     nanos_since(rt, &start)
 }
 
-/// Prints the least times and their ratio.
+/// Prints the least times and their ratio, and how many lines were read at least.
 pub fn print_times(rt: &(impl Print + Clock), alloc: Global) -> Result<()> {
     let script = Script::new(alloc, LINES)?;
     let bytes = script.bytes.as_str().as_bytes();
     let mut reading = u64::MAX;
+    let mut said = usize::MAX;
     let mut cutting = u64::MAX;
     let mut copy = u64::MAX;
     for _ in 0..TRIES {
-        reading = reading.min(reading_time(rt, alloc, &script)?);
+        let (time, count) = reading_time(rt, alloc, &script)?;
+        reading = reading.min(time);
+        said = said.min(count);
         cutting = cutting.min(cutting_time(rt, alloc, &script)?);
         copy = copy.min(copy_time(rt, alloc, bytes)?);
     }
     let ratio = reading.saturating_mul(10) / copy.max(1);
     let each = reading / u64::from(LINES);
     println!(rt;
-        "{LINES} lines, {} bytes: {} us, of which cutting into tokens takes {} us; copy {} us, ratio {}.{}, {each} ns a line",
+        "{said} of {LINES} lines are read, {} bytes: {} us, of which cutting into tokens takes {} us; copy {} us, ratio {}.{}, {each} ns a line",
         bytes.len(),
         reading / 1_000,
         cutting / 1_000,

@@ -14,6 +14,3 @@ mod statement;
 
 pub use laws::{each_line_has_one_answer, each_line_says_one_thing};
 pub use line::{LineNo, read_line};
-
-#[cfg(test)]
-mod tests;

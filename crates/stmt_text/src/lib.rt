@@ -17,4 +17,6 @@ pub use reader::read_line;
 pub use stmt_reader::{LineNo, each_line_has_one_answer, each_line_says_one_thing};
 
 #[cfg(test)]
+mod reading_tests;
+#[cfg(test)]
 mod tests;

@@ -8,7 +8,7 @@ use std::test::Fail;
 const LINE_MOST: usize = 1_048_576;
 
 /// Lines that say nothing, each with its session and the place of the fault.
-const FAULTS: [(&[u8], u8, u64); 50] = [
+const FAULTS: [(&[u8], u8, u64); 51] = [
     (b"", 0, 0),
     (b"17 BEGIN", 0, 0),
     (b"-0 BEGIN", 0, 0),
@@ -31,6 +31,7 @@ const FAULTS: [(&[u8], u8, u64); 50] = [
     (b"1 INSERT INTO t VALUES (1-2)", 1, 25),
     (b"1 INSERT INTO t VALUES (DATE '2024-02-30')", 1, 29),
     (b"1 SELECT a FROM t WHERE a => 5", 1, 26),
+    (b"1 SELECT a FROM t WHERE a=>5", 1, 25),
     (b"1 SELECT * FROM t WHERE NOT", 1, 27),
     (b"1 UPDATE t SET a = 1,", 1, 21),
     (b"0 BEGIN", 0, 0),
