@@ -60,10 +60,7 @@ fn add_history(alloc: Global, rows: &mut CatRowList, newest: u64) -> Result<(), 
         rows.push(snapshot(id, TABLE + 1, 0))?;
     }
     rows.push(changes(0, Words::of(alloc, "created_schema:\"main\"")?))?;
-    rows.push(changes(
-        TABLE,
-        Words::of(alloc, "created_table:\"main\".\"t1\"")?,
-    ))?;
+    rows.push(changes(TABLE, Words::of(alloc, "created_table:\"main\".\"t1\"")?))?;
     for id in TABLE + 1..=newest {
         rows.push(changes(id, Words::of(alloc, "altered_table:1")?))?;
     }
