@@ -18,7 +18,7 @@ use Rattle.token_grammar.proofs.Sound.{Sound, after}
 use Rattle.lake_types.specs.Calendar.{day_text, date_after}
 use Rattle.stmt_reader.specs.Dates.{date_of}
 use Rattle.stmt_reader.proofs.DateLemmas.{day_found}
-use Rattle.stmt_reader.specs.Rules.{day_of, name, table, column_type, constant, number, text, bytes, day, literal, column, columns, nulls, default_value, cell, row, operator, comparison, nullness, test, ands, ors, unary, condition, where_, item, shown, assignment, create, remove, rename, setting, set_column, change, alter, definition, insert, delete, update, select, rows, count, begin_at, begin, transaction, upkeep, stmt}
+use Rattle.stmt_reader.specs.Rules.{day_of, name, table, column_type, constant, number, text, bytes, day, literal, column, columns, nulls, default_value, cell, row, operator, comparison, nullness, simple_test, ands, ors, unary, condition, where_, item, shown, assignment, create, remove, rename, setting, set_column, change, alter, definition, insert, delete, update, select, rows, count, begin_at, begin, transaction, upkeep, stmt}
 
 abbrev with_text : Kind → List ℕ → Token
 with_text a text = record { kind = a; text = text }
@@ -152,8 +152,8 @@ pub sound_nullness : Sound nullness
 unfolding nullness is
 sound_nullness = (sound_word k.Is, (((sound_word k.Not, refl, refl), sound_word k.Null, elim [ k.And ↦ refl | _ ↦ refl ])), λ a. refl)
 
-pub sound_test : Sound test
-unfolding test name comparison operator nullness literal is
+pub sound_test : Sound simple_test
+unfolding simple_test name comparison operator nullness literal is
 sound_test = (sound_name, (sound_nullness, sound_comparison, elim [ k.And ↦ refl | _ ↦ refl ], refl, refl), λ a. refl)
 
 -- ---- chains
@@ -236,7 +236,7 @@ record Ends (u : Grammar Pred) : Type 0 where
   ends : (a : Kind) → after u a ≡ false
 
 unary_ends : (n : ℕ) → Ends (unary n)
-unfolding unary test name comparison operator nullness literal is
+unfolding unary simple_test name comparison operator nullness literal is
 unary_ends zero = record { sound = sound_test; full = refl; ends = λ a. refl }
 unary_ends (suc n) =
     let h = unary_ends n in

@@ -189,9 +189,9 @@ test_of n (inl true) = pred.NotNull n
 test_of n (inl false) = pred.IsNull n
 test_of n (inr z) = pred.Compare n z.0 z.1
 
--- test = name (IS [NOT] NULL | op lit)
-unfoldable pub test : Grammar Pred
-test = made (λ z. test_of z.0 z.1) (name then (made inl nullness or made inr comparison))
+-- simple_test = name (IS [NOT] NULL | op lit)
+unfoldable pub simple_test : Grammar Pred
+simple_test = made (λ z. test_of z.0 z.1) (name then (made inl nullness or made inr comparison))
 
 -- one part is itself
 abbrev pub and_of : List Pred → Pred
@@ -210,11 +210,11 @@ ands unary = made and_of (chain k.And unary)
 unfoldable pub ors : Grammar Pred → Grammar Pred
 ors unary = made or_of (chain k.Or (ands unary))
 
--- unary = NOT unary | ( or ) | test, where so many more parentheses and NOTs may be opened
+-- unary = NOT unary | ( or ) | simple_test, where so many more parentheses and NOTs may be opened
 unfoldable pub unary : ℕ → Grammar Pred
-unary zero = test
+unary zero = simple_test
 unary (suc depth) =
-    made (λ z. pred.Not z.1) (word k.Not then unary depth) or parenthesized (ors (unary depth)) or test
+    made (λ z. pred.Not z.1) (word k.Not then unary depth) or parenthesized (ors (unary depth)) or simple_test
 
 unfoldable pub condition : Grammar Pred
 condition = ors (unary 64)

@@ -67,9 +67,9 @@ fn nullness(tokens: &mut Cursor<'_>) -> Result<bool, Stop>
     Ok(not)
 }
 
-#[tactic(auto, unfolding(crate::specs::Rules::test, crate::specs::Rules::nullness))]
-fn test(alloc: Global, tokens: &mut Cursor<'_>) -> Result<Pred, Stop>
-    ensures { Reads (read spec.test tokens.old.rest.now) result tokens.new.rest.now }
+#[tactic(auto, unfolding(crate::specs::Rules::simple_test, crate::specs::Rules::nullness))]
+fn simple_test(alloc: Global, tokens: &mut Cursor<'_>) -> Result<Pred, Stop>
+    ensures { Reads (read spec.simple_test tokens.old.rest.now) result tokens.new.rest.now }
 {
     let name = name(alloc, tokens)?;
     if tokens.sees(Kind::Is) {
@@ -111,7 +111,7 @@ fn unary(alloc: Global, tokens: &mut Cursor<'_>, depth: usize) -> Result<Pred, S
     ensures { Reads (read (spec.unary depth) tokens.old.rest.now) result tokens.new.rest.now }
 {
     if depth == 0 {
-        return test(alloc, tokens);
+        return simple_test(alloc, tokens);
     }
     if tokens.sees(Kind::Not) {
         tokens.expect(Kind::Not)?;
@@ -124,7 +124,7 @@ fn unary(alloc: Global, tokens: &mut Cursor<'_>, depth: usize) -> Result<Pred, S
         tokens.expect(Kind::RightParen)?;
         return Ok(inner);
     }
-    let test = test(alloc, tokens)?;
+    let test = simple_test(alloc, tokens)?;
     Ok(test)
 }
 

@@ -20,7 +20,7 @@ use Rattle.token_grammar.specs.Phrases.{is, word, ◌then◌, chain}
 use Rattle.token_text.proofs.CutLemmas.{append_cut}
 use Rattle.token_text.proofs.FixedLemmas.{cut_fixed}
 use Rattle.token_text.specs.Spelled.{fixed, is_fixed}
-use Rattle.stmt_reader.specs.Rules.{name, literal, operator, comparison, nullness, test, ands, ors, unary, condition, where_, and_of, or_of}
+use Rattle.stmt_reader.specs.Rules.{name, literal, operator, comparison, nullness, simple_test, ands, ors, unary, condition, where_, and_of, or_of}
 use Rattle.stmt_text.proofs.NamePuts.{put_name, put_literal}
 use Rattle.stmt_text.proofs.Puts.{Put, AllTyped, Pairs, typed_parts, put_word, put_next, put_then, put_enclosed, put_chain}
 use Rattle.stmt_text.specs.Printable.{is_name, is_literal, is_sound, is_sound_at, has_two, is_test, is_where}
@@ -39,16 +39,16 @@ put_op op.Le = ((fixed k.Le, refl, refl, refl), (cut_fixed k.Le refl, tt))
 put_op op.Gt = ((fixed k.Gt, refl, refl, refl), (cut_fixed k.Gt refl, tt))
 put_op op.Ge = ((fixed k.Ge, refl, refl, refl), (cut_fixed k.Ge refl, tt))
 
-put_comparison : (n : List ℕ) (o : Op) (v : Value) → (is_name n && is_literal v) ≡ true → AllTyped (comparison_tokens n o v) → Put test (comparison_tokens n o v) (pred.Compare n o v)
-unfolding test comparison
+put_comparison : (n : List ℕ) (o : Op) (v : Value) → (is_name n && is_literal v) ≡ true → AllTyped (comparison_tokens n o v) → Put simple_test (comparison_tokens n o v) (pred.Compare n o v)
+unfolding simple_test comparison
 put_comparison n o v h t =
     let p = and_parts (is_name n) (is_literal v) h in
     let front = put_name n p.0 (t.0, tt) in
     let behind = put_then operator literal (fixed (op_kind o) ∷ []) (literal_tokens v) o v (put_op o) (put_literal v p.1 t.1.1) in
     (((n, inr (o, v)), (name_tokens n, fixed (op_kind o) ∷ literal_tokens v, refl, front.0, inr ((o, v), behind.0, refl)), refl), append_cut (name_tokens n) (fixed (op_kind o) ∷ literal_tokens v) front.1 behind.1)
 
-put_is_null : (n : List ℕ) → is_name n ≡ true → AllTyped (is_null_tokens n) → Put test (is_null_tokens n) (pred.IsNull n)
-unfolding test nullness
+put_is_null : (n : List ℕ) → is_name n ≡ true → AllTyped (is_null_tokens n) → Put simple_test (is_null_tokens n) (pred.IsNull n)
+unfolding simple_test nullness
 put_is_null n h t =
     let front = put_name n h (t.0, tt) in
     let null = put_word k.Null refl in
@@ -67,8 +67,8 @@ put_is_null n h t =
       append_cut (name_tokens n) (fixed k.Is ∷ fixed k.Null ∷ []) front.1 is_null.1,
     )
 
-put_not_null : (n : List ℕ) → is_name n ≡ true → AllTyped (not_null_tokens n) → Put test (not_null_tokens n) (pred.NotNull n)
-unfolding test nullness
+put_not_null : (n : List ℕ) → is_name n ≡ true → AllTyped (not_null_tokens n) → Put simple_test (not_null_tokens n) (pred.NotNull n)
+unfolding simple_test nullness
 put_not_null n h t =
     let front = put_name n h (t.0, tt) in
     let null = put_word k.Null refl in
@@ -92,7 +92,7 @@ put_not_null n h t =
 -- ---- tests as parts
 
 -- a single test at any depth
-put_unary : (n : ℕ) (ts : List Token) (p : Pred) → Put test ts p → Put (unary n) ts p
+put_unary : (n : ℕ) (ts : List Token) (p : Pred) → Put simple_test ts p → Put (unary n) ts p
 unfolding unary
 put_unary zero ts p h = h
 put_unary (suc n) ts p h = (inr (inr h.0), h.1)
