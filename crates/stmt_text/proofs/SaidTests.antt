@@ -186,7 +186,7 @@ any_within n sound s = sound && nat_le s.nesting n
 no_level : (n : ℕ) → nat_le 0 n ≡ true
 no_level n = grind arith
 
-tested : (n : ℕ) (name : List ℕ) (z : Bool ⊎ (Op × Value)) → (is_name name && is_tested z) ≡ true → IsOne n (rules.simple_test_of name z) ≡ true
+tested : (n : ℕ) (name : List ℕ) (z : Bool ⊎ (Op × Value)) → (is_name name && is_tested z) ≡ true → IsOne n (rules.test_of name z) ≡ true
 tested n name (inl true) h =
     by_layer (one_within n) (Pred-F.NotNull name) (pred.NotNull name) (rolls-NotNull name) (both_true (is_name name) (nat_le 0 n) (and_parts (is_name name) true h).0 (no_level n))
 tested n name (inl false) h =
@@ -200,7 +200,7 @@ anything g ts x f s = refl
 test_gives : (n : ℕ) → Gives rules.simple_test (IsOne n)
 unfolding rules.simple_test rules.comparison
 test_gives n =
-    made_gives (λ z. rules.simple_test_of z.0 z.1) (rules.name then (made inl rules.nullness or made inr rules.comparison)) (λ z. is_name z.0 && is_tested z.1) (IsOne n)
+    made_gives (λ z. rules.test_of z.0 z.1) (rules.name then (made inl rules.nullness or made inr rules.comparison)) (λ z. is_name z.0 && is_tested z.1) (IsOne n)
     (both_gives rules.name (made inl rules.nullness or made inr rules.comparison) is_name is_tested name_gives
     (either_gives (made inl rules.nullness) (made inr rules.comparison) is_tested
     (made_gives inl rules.nullness (λ b. true) is_tested (anything rules.nullness) (λ b h. refl))
