@@ -1,4 +1,4 @@
-//! The encodings of values in Apache Parquet pages, both ways: definition levels, plain values and dictionary indices
+//! The encodings of values in Apache Parquet pages: definition levels and plain values both ways, dictionary indices read
 //! (Apache Parquet format, "Encodings"). What is read may come from strangers: any bytes give values or the first fault.
 #![tactic(auto)]
 
