@@ -1,6 +1,6 @@
 //! The cells of a column, from the values that its chunks hold.
 
-ghost use Rattle.std.specs.Prelude.{◌≡◌, ◌∷◌, List, Bool, IfOk, All, map};
+ghost use Rattle.std.specs.Prelude.{◌≡◌, ◌↔◌, ◌∷◌, [], List, Bool, IfOk, IsTrue, All, map, true};
 ghost use Rattle.std.specs.Str.{IsUtf8};
 ghost use Rattle.std.specs.Vec.Iter.{into_iter_items};
 ghost use Rattle.lake_types.specs.declared.value.ColType.TheVariants.{Varchar};
@@ -46,10 +46,17 @@ fn number_of(ty: ColType, number: i32) -> Value
     }
 }
 
+/// An empty list with room for so many cells.
+fn with_room(alloc: Global, count: usize) -> Result<ValueList, NoMemory>
+    ensures { IfOk result (λ cells. cells ≡ []) }
+{
+    Ok(ValueList::from_vec(Vec::with_capacity(alloc, count)?))
+}
+
 fn bools_of(alloc: Global, bools: &[bool]) -> Result<ValueList, NoMemory>
     ensures { IfOk result (λ cells. cells ≡ map spec.bool_of bools.now) }
 {
-    let mut cells = ValueList::new(alloc);
+    let mut cells = with_room(alloc, bools.len())?;
     for truth in bools {
         cells.push(Value::Bool(*truth))?;
     }
@@ -59,7 +66,7 @@ fn bools_of(alloc: Global, bools: &[bool]) -> Result<ValueList, NoMemory>
 fn numbers_of(alloc: Global, ty: ColType, numbers: &[i32]) -> Result<ValueList, NoMemory>
     ensures { IfOk result (λ cells. cells ≡ map (spec.number_of ty) numbers.now) }
 {
-    let mut cells = ValueList::new(alloc);
+    let mut cells = with_room(alloc, numbers.len())?;
     for number in numbers {
         cells.push(number_of(ty, *number))?;
     }
@@ -69,7 +76,7 @@ fn numbers_of(alloc: Global, ty: ColType, numbers: &[i32]) -> Result<ValueList, 
 fn longs_of(alloc: Global, numbers: &[i64]) -> Result<ValueList, NoMemory>
     ensures { IfOk result (λ cells. cells ≡ map spec.long_of numbers.now) }
 {
-    let mut cells = ValueList::new(alloc);
+    let mut cells = with_room(alloc, numbers.len())?;
     for number in numbers {
         cells.push(Value::Int(*number))?;
     }
@@ -81,8 +88,9 @@ fn texts_of(alloc: Global, strings: ByteLists) -> Result<ValueList, NoMemory>
     requires { All (λ x. IsUtf8 x) strings }
     ensures { IfOk result (λ cells. cells ≡ map spec.text_of strings) }
 {
-    let mut cells = ValueList::new(alloc);
-    for bytes in strings.into_vec() {
+    let strings = strings.into_vec();
+    let mut cells = with_room(alloc, strings.len())?;
+    for bytes in strings {
         let Ok(text) = String::from_utf8(bytes) else {
             unreachable!()
         };
@@ -95,8 +103,9 @@ fn texts_of(alloc: Global, strings: ByteLists) -> Result<ValueList, NoMemory>
 fn blobs_of(alloc: Global, strings: ByteLists) -> Result<ValueList, NoMemory>
     ensures { IfOk result (λ cells. cells ≡ map spec.blob_of strings) }
 {
-    let mut cells = ValueList::new(alloc);
-    for bytes in strings.into_vec() {
+    let strings = strings.into_vec();
+    let mut cells = with_room(alloc, strings.len())?;
+    for bytes in strings {
         cells.push(Value::Bytes(Blob::from_vec(bytes)))?;
     }
     Ok(cells)
@@ -146,7 +155,7 @@ fn next_cell(flag: bool, values: &mut IntoIter<Value>) -> Value
 fn spread(alloc: Global, flags: &[bool], values: ValueList) -> Result<ValueList, NoMemory>
     ensures { IfOk result (λ cells. cells ≡ spec.spread flags.now values) }
 {
-    let mut cells = ValueList::new(alloc);
+    let mut cells = with_room(alloc, flags.len())?;
     let mut values = values.into_vec().into_iter();
     for flag in flags {
         cells.push(next_cell(*flag, &mut values))?;
@@ -154,12 +163,24 @@ fn spread(alloc: Global, flags: &[bool], values: ValueList) -> Result<ValueList,
     Ok(cells)
 }
 
+/// Whether each cell is a value.
+fn are_values(flags: &[bool]) -> bool
+    ensures { IsTrue result ↔ All (λ flag. flag ≡ true) flags.now }
+{
+    flags.iter().all(|flag| *flag)
+}
+
 /// The cells of a column that a chunk holds.
+#[tactic(auto, using(crate::proofs::CellLemmas::spread_all))]
 pub fn cells_of(alloc: Global, ty: ColType, raw: RawCells) -> Result<ValueList, NoMemory>
     requires { ty ≡ Varchar → AreTexts (values_of raw.plain) }
     ensures { IfOk result (λ cells. cells ≡ spec.cells_of ty (pages.cells_of raw)) }
 {
     let RawCells { defined, plain } = raw;
     let values = typed(alloc, ty, plain)?;
+    // Without NULLs the values are the cells, as they lie.
+    if values.len() == defined.len() && are_values(defined.as_slice()) {
+        return Ok(values);
+    }
     spread(alloc, defined.as_slice(), values)
 }

@@ -34,43 +34,33 @@ impl Model for Column {
     ghost view = { λ c. record { defined = c.defined.items; values = values_of c.plain; dictionary = option_map values_of c.dictionary } };
 }
 
-/// Values behind others of the same kind.
-fn join_values(values: Plain, more: Plain) -> Result<Plain, AllocError>
-    ensures { IfOk result (λ p. values_of p ≡ joined (values_of values) (values_of more)) }
+/// Items behind others. Those of a first page stay where they lie.
+fn behind<T: Drop>(had: Vec<T>, more: Vec<T>) -> Result<Vec<T>, AllocError>
+    ensures { IfOk result (λ all. all.items ≡ had.items ++ more.items) }
 {
-    match values {
-        Plain::Bools(mut values) => {
-            if let Plain::Bools(more) = more {
-                values.extend_from_slice(more.as_slice())?;
-            }
-            Ok(Plain::Bools(values))
-        }
-        Plain::I32s(mut values) => {
-            if let Plain::I32s(more) = more {
-                values.extend_from_slice(more.as_slice())?;
-            }
-            Ok(Plain::I32s(values))
-        }
-        Plain::I64s(mut values) => {
-            if let Plain::I64s(more) = more {
-                values.extend_from_slice(more.as_slice())?;
-            }
-            Ok(Plain::I64s(values))
-        }
-        Plain::Strings(values) => match more {
-            Plain::Strings(more) => Ok(Plain::Strings(join_strings(values, more)?)),
-            _ => Ok(Plain::Strings(values)),
-        },
+    if had.is_empty() {
+        return Ok(more);
     }
+    let mut all = had;
+    let mut more = more;
+    all.append(&mut more)?;
+    Ok(all)
 }
 
-fn join_strings(values: ByteLists, more: ByteLists) -> Result<ByteLists, AllocError>
-    ensures { IfOk result (λ lists. lists ≡ values ++ more) }
+/// Values behind others of the same kind.
+fn join_values(had: Plain, more: Plain) -> Result<Plain, AllocError>
+    ensures { IfOk result (λ p. values_of p ≡ joined (values_of had) (values_of more)) }
 {
-    let mut values = values.into_vec();
-    let mut more = more.into_vec();
-    values.append(&mut more)?;
-    Ok(ByteLists::from_vec(values))
+    Ok(match (had, more) {
+        (Plain::Bools(had), Plain::Bools(more)) => Plain::Bools(behind(had, more)?),
+        (Plain::I32s(had), Plain::I32s(more)) => Plain::I32s(behind(had, more)?),
+        (Plain::I64s(had), Plain::I64s(more)) => Plain::I64s(behind(had, more)?),
+        (Plain::Strings(had), Plain::Strings(more)) => {
+            let all = behind(had.into_vec(), more.into_vec())?;
+            Plain::Strings(ByteLists::from_vec(all))
+        }
+        (had, _) => had,
+    })
 }
 
 /// Flags behind others.

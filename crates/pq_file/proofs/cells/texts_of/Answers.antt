@@ -14,8 +14,8 @@ unreachable-requires c =
 
 pub loop-bytes-init : goal.loop-bytes-init
 loop-bytes-init c = (
-  begin_all _ _ _ c.requires c.into_vec-bytes-items.ensures c.into_iter-bytes-iterator.ensures.into_iter_gives.0,
-  begin_cells text_of c.new-cells.result _ _ _ c.new-cells.ensures c.into_vec-bytes-items.ensures c.into_iter-bytes-iterator.ensures.into_iter_gives.0,
+  begin_all _ _ _ c.requires c.into_vec-strings.ensures c.into_iter-bytes-iterator.ensures.into_iter_gives.0,
+  begin_cells text_of _ _ _ _ c.in_ok-cells.ensures c.into_vec-strings.ensures c.into_iter-bytes-iterator.ensures.into_iter_gives.0,
 )
 
 pub loop-bytes-preserved : goal.loop-bytes-preserved
