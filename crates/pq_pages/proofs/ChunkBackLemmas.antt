@@ -82,15 +82,15 @@ texts_again place [] h = refl
 texts_again place (x ∷ xs) h =
     rw (is_utf8-from_IsUtf8 x (All-head (λ (y : List ℕ). IsUtf8 y) x xs h)) (texts_again (place + 1) xs (All-tail (λ (y : List ℕ). IsUtf8 y) x xs h))
 
-texts_back : (text : Bool) (vs : Values) → (text ≡ true → AreTexts vs) → are_texts text 0 vs ≡ Ok tt
-texts_back text (bools xs) h = refl
-texts_back text (i32s xs) h = refl
-texts_back text (i64s xs) h = refl
-texts_back true (strings xs) h = texts_again 0 xs (h refl)
-texts_back false (strings xs) h = refl
+texts_back : (text : Bool) (place : ℕ) (vs : Values) → (text ≡ true → AreTexts vs) → are_texts text place vs ≡ Ok tt
+texts_back text place (bools xs) h = refl
+texts_back text place (i32s xs) h = refl
+texts_back text place (i64s xs) h = refl
+texts_back true place (strings xs) h = texts_again place xs (h refl)
+texts_back false place (strings xs) h = refl
 
-judged_back : (text : Bool) (vs before : Values) → are_texts text 0 vs ≡ Ok tt → judged text 0 (Ok vs) before ≡ Ok vs
-judged_back text vs before h = rw h refl
+pub judged_back : (text : Bool) (place : ℕ) (vs before : Values) → (text ≡ true → AreTexts vs) → judged text place (Ok vs) before ≡ Ok vs
+judged_back text place vs before utf8 = rw (texts_back text place vs utf8) refl
 
 values_back : ValuesBack → (text : Bool) (count : ℕ) (vs : Values) → count_of vs ≡ count → AreShort vs → AreInRange vs → (text ≡ true → AreTexts vs)
     → plain_values (kind_of vs) text 0 count (value_bytes vs) ≡ Ok vs
@@ -99,7 +99,7 @@ values_back back text count vs same short fits utf8 =
     let read : values_in (kind_of vs) count (value_bytes vs) ≡ Ok vs =
     subst (λ n. values_in (kind_of vs) n (value_bytes vs) ≡ Ok vs) same
     (subst (λ bytes. values_in (kind_of vs) (count_of vs) bytes ≡ Ok vs) (append-nil (value_bytes vs)) (back vs [] short fits)) in
-    rw read (judged_back text vs (plain_before (kind_of vs) count (value_bytes vs)) (texts_back text vs utf8))
+    rw read (judged_back text 0 vs (plain_before (kind_of vs) count (value_bytes vs)) utf8)
 
 none_had : (vs : Values) → count_of (no_values (kind_of vs)) ≡ 0
 none_had (bools xs) = refl
@@ -113,7 +113,7 @@ joined_none (i32s xs) = refl
 joined_none (i64s xs) = refl
 joined_none (strings xs) = refl
 
-none_at_all : (vs : Values) → count_of vs ≡ 0 → no_values (kind_of vs) ≡ vs
+pub none_at_all : (vs : Values) → count_of vs ≡ 0 → no_values (kind_of vs) ≡ vs
 none_at_all (bools []) h = refl
 none_at_all (bools (x ∷ xs)) h = cc
 none_at_all (i32s []) h = refl
@@ -183,13 +183,13 @@ one_page ints levels values text optional cells end can fits utf8 some =
 done : (spec : ChunkSpec) (had : Chunk) → length had.defined ≡ spec.num_values → is_whole spec had ≡ true
 done spec had h = eq-eqb _ _ h
 
-ends_here : (spec : ChunkSpec) (end most : ℕ) (had : Chunk) (bytes : List ℕ) → length had.defined ≡ spec.num_values → pages_in spec end most had bytes ≡ Ok had
+pub ends_here : (spec : ChunkSpec) (end most : ℕ) (had : Chunk) (bytes : List ℕ) → length had.defined ≡ spec.num_values → pages_in spec end most had bytes ≡ Ok had
 ends_here spec end most had bytes h =
     let full : is_whole spec had ≡ true = done spec had h in
     let stop : (is_whole spec had || nat_eq (length bytes) 0) ≡ true = rw full refl in
     pages_end spec end most had bytes stop ∙ (rw full refl)
 
-next_page : (spec : ChunkSpec) (end most : ℕ) (had new : Chunk) (bytes rest : List ℕ) → (is_whole spec had || nat_eq (length bytes) 0) ≡ false → page_in spec end had bytes ≡ Ok (new, rest)
+pub next_page : (spec : ChunkSpec) (end most : ℕ) (had new : Chunk) (bytes rest : List ℕ) → (is_whole spec had || nat_eq (length bytes) 0) ≡ false → page_in spec end had bytes ≡ Ok (new, rest)
     → pages_in spec end (suc most) had bytes ≡ pages_in spec end most new rest
 unfolding pages_in
 next_page spec end most had new bytes rest go read = rw (go, read) refl

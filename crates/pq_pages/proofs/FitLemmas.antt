@@ -43,29 +43,29 @@ ValuesAsked = (kind : Physical) (count : ℕ) (bytes : List ℕ) (vs : Values) �
 -- ---- Readings that have a value
 
 -- the first reading had one, and the second
-record Both {A B : Type 0} (read : Result A PageFault) (more : A → Result B PageFault) (y : B) : Type 0 where
+pub record Both {A B : Type 0} (read : Result A PageFault) (more : A → Result B PageFault) (y : B) : Type 0 where
   pub first : A
   pub had : read ≡ Ok first
   pub then_had : more first ≡ Ok y
 
-both : {A B : Type 0} (read : Result A PageFault) (more : A → Result B PageFault) (y : B) → (read then more) ≡ Ok y → Both read more y
+pub both : {A B : Type 0} (read : Result A PageFault) (more : A → Result B PageFault) (y : B) → (read then more) ≡ Ok y → Both read more y
 both (Ok x) more y h = record { first = x; had = refl; then_had = h }
 both (Err e) more y h = cc
 
-err_ok : {A : Type 0} (e : PageFault) (y : A) → ◌≡◌ {A = Result A PageFault} (Err e) (Ok y) → ⊥
+pub err_ok : {A : Type 0} (e : PageFault) (y : A) → ◌≡◌ {A = Result A PageFault} (Err e) (Ok y) → ⊥
 err_ok e y h = cc
 
-ok_is : {A : Type 0} (x y : A) → ◌≡◌ {A = Result A PageFault} (Ok x) (Ok y) → x ≡ y
+pub ok_is : {A : Type 0} (x y : A) → ◌≡◌ {A = Result A PageFault} (Ok x) (Ok y) → x ≡ y
 ok_is x y h = cc
 
-ok_enc : {A : Type 0} (read : Result A EncFault) (x : A) → of_values read ≡ Ok x → read ≡ Ok x
+pub ok_enc : {A : Type 0} (read : Result A EncFault) (x : A) → of_values read ≡ Ok x → read ≡ Ok x
 ok_enc (Ok y) x h = let same : y ≡ x = ok_is y x h in ap (λ z. Ok z) same
 ok_enc (Err e) x h = cc
 
 -- ---- Values
 
 -- values of a type, as many as were wanted, short enough, and texts if they have to be
-record Fit (type_of : Physical) (count : ℕ) (text : Bool) (vs : Values) : Type 0 where
+pub record Fit (type_of : Physical) (count : ℕ) (text : Bool) (vs : Values) : Type 0 where
   pub kind : kind_of vs ≡ type_of
   pub size : count_of vs ≡ count
   pub short : AreShort vs
@@ -81,14 +81,14 @@ texts_found place (x ∷ xs) h =
     let parts = cond_ok (is_utf8 x) (all_texts (place + 1) xs) (fault.BadUtf8 place) h in
     All-cons (λ (y : List ℕ). IsUtf8 y) x xs (IsUtf8-from_is_utf8 x parts.0) (texts_found (place + 1) xs parts.1)
 
-texts_are : (text : Bool) (place : ℕ) (vs : Values) → are_texts text place vs ≡ Ok tt → text ≡ true → AreTexts vs
+pub texts_are : (text : Bool) (place : ℕ) (vs : Values) → are_texts text place vs ≡ Ok tt → text ≡ true → AreTexts vs
 texts_are text place (bools xs) h e = tt
 texts_are text place (i32s xs) h e = tt
 texts_are text place (i64s xs) h e = tt
 texts_are true place (strings xs) h e = texts_found place xs h
 texts_are false place (strings xs) h e = cc
 
-judged_ok : (text : Bool) (place : ℕ) (read : Result Values EncFault) (before vs : Values) → judged text place read before ≡ Ok vs → (read ≡ Ok vs) × (are_texts text place vs ≡ Ok tt)
+pub judged_ok : (text : Bool) (place : ℕ) (read : Result Values EncFault) (before vs : Values) → judged text place read before ≡ Ok vs → (read ≡ Ok vs) × (are_texts text place vs ≡ Ok tt)
 judged_ok text place (Ok ws) before vs h =
     let b = both (are_texts text place ws) (λ u. Ok ws) vs h in
     let same : ws ≡ vs = ok_is ws vs b.then_had in
@@ -104,7 +104,7 @@ plain_fit law kind text place count bytes vs h =
     let asked = law kind count bytes vs j.0 in
     record { kind = asked.0; size = asked.1; short = asked.2; texts = texts_are text place vs j.1 }
 
-flags_count : LevelsAsked → (count : ℕ) (bytes : List ℕ) (flags : List Bool) → flags_in count bytes ≡ Ok flags → length flags ≡ count
+pub flags_count : LevelsAsked → (count : ℕ) (bytes : List ℕ) (flags : List Bool) → flags_in count bytes ≡ Ok flags → length flags ≡ count
 unfolding flags_in
 flags_count law count bytes flags h =
     let b = both (of_values (levels_in 1 bytes count)) (λ xs. Ok (map is_one xs)) flags h in
@@ -112,11 +112,11 @@ flags_count law count bytes flags h =
     let same : map is_one b.first ≡ flags = ok_is _ _ b.then_had in
     ap length (sym same) ∙ length-map b.first is_one ∙ law 1 count bytes b.first read
 
-which : {A : Type 0} (t : Bool) (x y r : A) → cond t x y ≡ r → ((t ≡ true) × (x ≡ r)) ⊎ ((t ≡ false) × (y ≡ r))
+pub which : {A : Type 0} (t : Bool) (x y r : A) → cond t x y ≡ r → ((t ≡ true) × (x ≡ r)) ⊎ ((t ≡ false) × (y ≡ r))
 which true x y r h = inl (refl, h)
 which false x y r h = inr (refl, h)
 
-none_fit : (kind : Physical) (count : ℕ) (text : Bool) → count ≡ 0 → Fit kind count text (no_values kind)
+pub none_fit : (kind : Physical) (count : ℕ) (text : Bool) → count ≡ 0 → Fit kind count text (no_values kind)
 none_fit physical.Boolean count text h = record { kind = refl; size = sym h; short = tt; texts = λ e. tt }
 none_fit physical.Int32 count text h = record { kind = refl; size = sym h; short = tt; texts = λ e. tt }
 none_fit physical.Int64 count text h = record { kind = refl; size = sym h; short = tt; texts = λ e. tt }
@@ -235,7 +235,7 @@ not_runs false false true d e h = cc
 not_runs false false false true e h = cc
 not_runs false false false false e h = cc
 
-runs_are_boolean : (kind : Physical) (code : ℤ) (way : Coding) → coding_of kind code ≡ Ok way → way ≡ coding.Runs → kind ≡ physical.Boolean
+pub runs_are_boolean : (kind : Physical) (code : ℤ) (way : Coding) → coding_of kind code ≡ Ok way → way ≡ coding.Runs → kind ≡ physical.Boolean
 unfolding coding_of
 runs_are_boolean physical.Boolean code way h e = refl
 runs_are_boolean physical.Int32 code way h e = absurd (not_runs (is_code 0 code) (is_code 2 code) (is_code 8 code) (is_code 3 code) (fault.Encoding code) (h ∙ ap (λ w. Ok w) e))

@@ -5,4 +5,6 @@ pub mod PageLemmas
 pub mod HeaderBackLemmas
 pub mod ChunkBackLemmas
 pub mod FitLemmas
+pub mod HeldLemmas
+pub mod HoldingLemmas
 pub mod TestLemmas

@@ -1,9 +1,10 @@
 //! What holds of written chunks. Each function's contract is a law.
 
-ghost use Rattle.std.specs.Prelude.{◌≡◌, ◌≤◌, ◌+◌, ◌*◌, ℕ, Bool, List, Ok, length, true};
+ghost use Rattle.std.specs.Prelude.{◌≡◌, ◌↔◌, ◌≤◌, ◌+◌, ◌*◌, ℕ, Bool, List, Ok, length, true};
 ghost use Rattle.pq_encodings.specs.Values.{AreInRange, plain_size};
 ghost use Rattle.pq_pages.specs.declared.chunk.ChunkSpec.{ChunkSpec};
 ghost use Rattle.pq_pages.specs.Fitting.{FitSpec};
+ghost use Rattle.pq_pages.specs.Holding.{IsChunk};
 ghost use Rattle.pq_pages.specs.Pages.{Cells, chunk_of};
 ghost use Rattle.pq_pages.specs.Writing.{AreTexts, AreWritable, body_bytes, chunk_bytes, spec_of};
 
@@ -19,6 +20,13 @@ pub fn reads_back()
 /// What is read of a chunk fits what is said of it.
 pub fn reads_as_said()
     ensures { (spec : ChunkSpec) (bytes : List ℕ) (cells : Cells) → chunk_of spec bytes ≡ Ok cells → FitSpec spec cells }
+{
+    pq_encodings::reads_as_asked();
+}
+
+/// Cells are read of a chunk exactly where the chunk holds them.
+pub fn reads_what_is_held()
+    ensures { (spec : ChunkSpec) (bytes : List ℕ) (cells : Cells) → (chunk_of spec bytes ≡ Ok cells) ↔ IsChunk spec bytes cells }
 {
     pq_encodings::reads_as_asked();
 }

@@ -1,8 +1,8 @@
 //! Column chunks of Apache Parquet files, both ways: [`read_chunk`], and [`write_chunk`] or [`push_chunk`].
 //!
 //! What is read may come from strangers: any bytes give cells or the first fault in reading order. `specs/Headers.antt`
-//! says what a page's header says, `specs/Pages.antt` which cells the pages of a chunk give, and `specs/Writing.antt`
-//! which bytes are written for cells.
+//! says what a page's header says, `specs/Holding.antt` which cells a chunk holds, `specs/Pages.antt` these cells or the
+//! first fault, and `specs/Writing.antt` which bytes are written for cells.
 #![tactic(auto)]
 
 mod chunk;
@@ -21,7 +21,7 @@ mod writing;
 
 pub use chunk::{ChunkSpec, RawCells};
 pub use fault::PageFault;
-pub use laws::{body_size, reads_as_said, reads_back};
+pub use laws::{body_size, reads_as_said, reads_back, reads_what_is_held};
 pub use reading::read_chunk;
 pub use writing::{push_chunk, write_chunk};
 

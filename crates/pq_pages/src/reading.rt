@@ -3,6 +3,7 @@
 ghost use Rattle.std.specs.Prelude.{◌≡◌, ◌≢◌, pos, Result, Ok, Err, IfOk};
 ghost use Rattle.pq_pages.specs.Answers.{Gives, Turns, ◌then◌};
 ghost use Rattle.pq_pages.specs.Fitting.{FitSpec};
+ghost use Rattle.pq_pages.specs.Holding.{AnswersChunk};
 ghost use Rattle.pq_pages.specs.Pages.{Chunk, cells_in, cells_of, chunk_of};
 ghost use Rattle.pq_pages.specs.declared.fault.PageFault.{PageFault};
 ghost use Rattle.pq_pages.specs.declared.fault.PageFault.TheVariants.{Compressed};
@@ -10,7 +11,7 @@ ghost use Rattle.pq_pages.specs.declared.fault.PageFault.TheVariants.{Compressed
 use crate::chunk::{ChunkSpec, RawCells};
 use crate::column::Column;
 use crate::fault::PageFault;
-use crate::laws::reads_as_said;
+use crate::laws::{reads_as_said, reads_what_is_held};
 use crate::pages::read_pages;
 use std::alloc::Global;
 use thrift_compact::Reader;
@@ -48,13 +49,17 @@ pub fn read_chunk(alloc: Global, bytes: &[u8], spec: &ChunkSpec) -> Result<RawCe
     // The cells, exactly where the bytes have them; else the first fault, with its place.
     ensures exact { Gives cells_of result (chunk_of spec.now bytes.now) }
 
+    // The cells that the chunk holds, and no others; or a fault, where it holds none.
+    ensures holds { AnswersChunk spec.now bytes.now result }
+
     // A codec is refused before any byte is read.
     ensures compressed { spec.now.codec ≢ pos 0 → result ≡ Err (Compressed spec.now.codec) }
 
     // There are as many cells as the chunk is said to have, and a value of its type for each that is no NULL.
     ensures fit { IfOk result (λ cells. FitSpec spec.now (cells_of cells)) }
 {
-    // The law on which the last clause stands.
+    // The laws on which two of the clauses stand.
     reads_as_said();
+    reads_what_is_held();
     chunk_cells(alloc, bytes, spec)
 }
