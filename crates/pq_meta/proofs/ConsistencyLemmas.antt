@@ -1,6 +1,6 @@
 -- The parts of a footer that is read fit together.
 use Rattle.std.proofs.Common.{◌≡◌, ◌≢◌, ℕ, ℤ, pos, negsuc, ◌+◌, ◌<◌, ◌≤◌, ◌<ℤ◌, ◌⊎◌, inl, inr, suc, List, [], ◌∷◌, ◌++◌, length, Option, Some, None, Result, Ok, Err, Bool, true, false, refl, sym, ap, ◌∙◌, arith, get_or, length-append, eq-eqb, subst}
-use Rattle.std.specs.Prelude.{All, AllPairs, IfOk, IfSome, nat_lt, ◌==◌, ◌||◌, if◌then◌else◌, ⊤}
+use Rattle.std.specs.Prelude.{All, AllPairs, IfOk, nat_lt, ◌==◌, ◌||◌, if◌then◌else◌, ⊤}
 use Rattle.std.proofs.lemmas.Bool.{cases_lt, eqb-true}
 use Rattle.std.proofs.lemmas.List.{get_or_append_left}
 use Rattle.std.proofs.Math.Seq.{get_or-append_seam}
@@ -32,23 +32,23 @@ use Rattle.pq_meta.specs.Consistency.{OtherField, IsNamed, IsFieldId, HasFieldId
 -- ---- steps that gave a value
 
 -- each of two steps gave one
-record Steps {A B : Type 0} (first : Result A MetaFault) (next : A → Result B MetaFault) (made : B) : Type 0 where
-  value : A
-  gives : first ≡ Ok value
-  later : next value ≡ Ok made
+pub record Steps {A B : Type 0} (first : Result A MetaFault) (next : A → Result B MetaFault) (made : B) : Type 0 where
+  pub value : A
+  pub gives : first ≡ Ok value
+  pub later : next value ≡ Ok made
 
-steps : {A B : Type 0} (first : Result A MetaFault) (next : A → Result B MetaFault) (made : B) → (first then next) ≡ Ok made → Steps first next made
+pub steps : {A B : Type 0} (first : Result A MetaFault) (next : A → Result B MetaFault) (made : B) → (first then next) ≡ Ok made → Steps first next made
 steps (Ok x) next made h = record { value = x; gives = refl; later = h }
 steps (Err e) next made h = cc
 
-ok_same : {A : Type 0} (x y : A) → let r : A → Result A MetaFault = λ a. Ok a in r x ≡ r y → x ≡ y
+pub ok_same : {A : Type 0} (x y : A) → let r : A → Result A MetaFault = λ a. Ok a in r x ≡ r y → x ≡ y
 ok_same x y h = cc
 
 tested : (b : Bool) (e : MetaFault) (u : ⊤) → (if b then Ok tt else Err e) ≡ Ok u → b ≡ true
 tested true e u h = refl
 tested false e u h = cc
 
-counted_equal : (want got : ℕ) (u : ⊤) → counted want got ≡ Ok u → want ≡ got
+pub counted_equal : (want got : ℕ) (u : ⊤) → counted want got ≡ Ok u → want ≡ got
 counted_equal want got u h = eqb-true want got (tested (want == got) (fault.Count want got) u h)
 
 -- what a step makes of each element has a property that each step gives
@@ -152,7 +152,7 @@ name_text (Some text) name h =
     let P : List ℕ → Type 0 = λ t. IsUtf8 t in
     subst P x.1 (IsUtf8-from_is_utf8 text x.0)
 
-needed : {A : Type 0} (id : ℤ) (field : Option A) (x : A) → need id field ≡ Ok x → field ≡ Some x
+pub needed : {A : Type 0} (id : ℤ) (field : Option A) (x : A) → need id field ≡ Ok x → field ≡ Some x
 needed id None x h = cc
 needed id (Some y) x h = ap (λ a. Some a) (ok_same y x h)
 
@@ -274,7 +274,7 @@ meta_consistent draft meta short h =
     } in
     subst IsConsistent (ok_same (record { columns = columns.value; num_rows = rows.value; groups = kept.value }) meta compared.later) is
 
-read_some : {A : Type 0} (read : Read A) (x : A) → read_of read ≡ Ok x → (rest : List ℕ) × (read ≡ Ok (x, rest))
+pub read_some : {A : Type 0} (read : Read A) (x : A) → read_of read ≡ Ok x → (rest : List ℕ) × (read ≡ Ok (x, rest))
 read_some (Ok y) x h = let same : y.0 ≡ x = ok_same y.0 x h in (y.1, rw (← same) refl)
 read_some (Err e) x h = cc
 

@@ -9,3 +9,4 @@ pub mod RoundTripLemmas
 pub mod KnownLemmas
 pub mod RangeLemmas
 pub mod ConsistencyLemmas
+pub mod HoldingLemmas

@@ -5,3 +5,4 @@ pub mod Groups
 pub mod Footers
 pub mod Spelling
 pub mod Consistency
+pub mod Holding

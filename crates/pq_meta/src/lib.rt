@@ -19,7 +19,7 @@ mod reading;
 mod writing;
 
 pub use fault::MetaFault;
-pub use laws::{reads_back, reads_consistent};
+pub use laws::{reads_back, reads_consistent, reads_what_is_held};
 pub use meta::{FileMeta, MetaChunk, MetaColumn, MetaGroup};
 pub use reading::read_meta;
 pub use writing::write_meta;

@@ -5,13 +5,14 @@ ghost use Rattle.pq_meta.specs.Checks.{Answers};
 ghost use Rattle.pq_meta.specs.Consistency.{IsConsistent};
 ghost use Rattle.pq_meta.specs.Drafts.{footer_part, no_footer};
 ghost use Rattle.pq_meta.specs.Footers as spec;
+ghost use Rattle.pq_meta.specs.Holding.{AnswersFooter};
 
 use crate::checks::check_count;
 use crate::columns::columns_of;
 use crate::drafts::FooterDraft;
 use crate::fault::MetaFault;
 use crate::groups::{groups_of, rows_of};
-use crate::laws::reads_consistent;
+use crate::laws::{reads_consistent, reads_what_is_held};
 use crate::meta::FileMeta;
 use std::alloc::Global;
 use thrift_compact::Reader;
@@ -86,11 +87,15 @@ pub fn read_meta(alloc: Global, footer: &[u8]) -> Result<FileMeta, MetaFault>
     // The footer, exactly where the bytes begin with one; else the first fault.
     ensures exact { Answers result (spec.footer_of footer.now) }
 
+    // The footer that the bytes begin with, and no other; or a fault, where they begin with none.
+    ensures holds { AnswersFooter footer.now result }
+
     // Its parts fit together: each group has a chunk for each column, of as many values as the group
     // has rows, and no field id is that of two columns.
     ensures consistent { IfOk result IsConsistent }
 {
-    // The law on which the last clause stands.
+    // The laws on which the last two clauses stand.
+    reads_what_is_held();
     reads_consistent();
     footer_in(alloc, footer)
 }
