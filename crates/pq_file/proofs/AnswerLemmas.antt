@@ -1,14 +1,11 @@
 -- Faults, handed on.
-use Rattle.std.proofs.Common.{◌≡◌, ℕ, Result, Err, refl}
+use Rattle.std.proofs.Common.{Result, refl}
 use Rattle.pq_meta.specs.declared.fault.MetaFault.{MetaFault}
 use Rattle.pq_meta.specs.declared.fault.MetaFault.TheVariants as meta
 use Rattle.pq_meta.specs.Checks.{Stops}
-use Rattle.pq_pages.specs.declared.fault.PageFault.{PageFault}
-use Rattle.pq_pages.specs.declared.fault.PageFault.TheVariants as page
-use Rattle.pq_pages.specs.Answers.{Fails as PageFails}
 use Rattle.pq_file.specs.declared.fault.FileFault.{FileFault}
 use Rattle.pq_file.specs.declared.fault.FileFault.TheVariants as fault
-use Rattle.pq_file.specs.Answers.{Fails, fault_of_meta, fault_of_page, of_meta, of_page, ◌then◌}
+use Rattle.pq_file.specs.Answers.{Fails, fault_of_meta, of_meta, ◌then◌}
 
 -- the first fault of two readings stands
 pub handed_on : {A B : Type 0} (e : FileFault) (read : Result A FileFault) (more : A → Result B FileFault) → Fails e read → Fails e (read then more)

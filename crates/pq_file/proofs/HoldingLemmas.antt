@@ -17,7 +17,10 @@ use Rattle.pq_meta.specs.declared.meta.MetaColumn.{MetaColumn}
 use Rattle.pq_meta.specs.declared.meta.MetaGroup.{MetaGroup}
 use Rattle.pq_meta.specs.Consistency.{FitsColumns}
 use Rattle.pq_meta.specs.Footers.{footer_of}
-use Rattle.pq_pages.specs.Pages.{chunk_of}
+use Rattle.pq_meta.specs.Holding.{IsFooter}
+use Rattle.pq_pages.specs.declared.chunk.ChunkSpec.{ChunkSpec}
+use Rattle.pq_pages.specs.Holding.{IsChunk}
+use Rattle.pq_pages.specs.Pages.{Cells, chunk_of}
 use Rattle.pq_file.specs.declared.fault.FileFault.{FileFault}
 use Rattle.pq_file.specs.declared.fault.FileFault.TheVariants as fault
 use Rattle.pq_file.specs.declared.parts.Part.{Part}
@@ -28,6 +31,18 @@ use Rattle.pq_file.specs.Holding.{AnswersReading, HasFooter, HoldsCells, HoldsCo
 use Rattle.pq_file.specs.Reading.{GroupParts, bare, beside, cells_fit, few_rows, file_of, groups_fit, groups_in, is_among, is_wanted, longer, most_rows, part_of, parts_fit, parts_in, sheet_in, sheet_of, span_of, spec_of, with_group}
 use Rattle.pq_file.proofs.BackLemmas.{cells_back}
 use Rattle.pq_file.proofs.SoundLemmas.{FootersConsistent, cells_in_range, few_ok, meta_ok, ok_same, page_ok, passed, steps}
+
+-- what the laws of chunks and of footers say
+abbrev pub ChunksHeld : Type 0
+ChunksHeld = (spec : ChunkSpec) (bytes : List ℕ) (cells : Cells) → (chunk_of spec bytes ≡ Ok cells) ↔ IsChunk spec bytes cells
+
+abbrev pub FootersHeld : Type 0
+FootersHeld = (bytes : List ℕ) (meta : FileMeta) → (footer_of bytes ≡ Ok meta) ↔ IsFooter bytes meta
+
+pub record Laws : Type 0 where
+  pub chunks : ChunksHeld
+  pub footers : FootersHeld
+  pub consistent : FootersConsistent
 
 -- where nothing was refused
 let_in : {A : Type 0} (b : Bool) (e : FileFault) (x y : A) → (if b then Err e else Ok x) ≡ Ok y → (b ≡ false) × (x ≡ y)
@@ -112,10 +127,10 @@ footer_found bytes footer has =
 -- ---- The cells of a chunk
 
 -- what is found of a chunk, and is in range, is held
-part_held : (bytes : List ℕ) (number place row : ℕ) (column : MetaColumn) (group : MetaGroup) (chunk : MetaChunk) (part : Part) (u : ⊤) → slice_get group.chunks place ≡ Some chunk
+part_held : ChunksHeld → (bytes : List ℕ) (number place row : ℕ) (column : MetaColumn) (group : MetaGroup) (chunk : MetaChunk) (part : Part) (u : ⊤) → slice_get group.chunks place ≡ Some chunk
     → part_of bytes number place column chunk ≡ Ok part → cells_fit part.place part.ty row part.cells ≡ Ok u → HoldsCells bytes place column group part.cells
 unfolding part_of span_of
-part_held bytes number place row column group chunk part u at h range =
+part_held law bytes number place row column group chunk part u at h range =
     let here : List ℕ = take chunk.length (drop chunk.first bytes) in
     let span = steps (span_of bytes number place chunk) _ part h in
     let read = steps (of_page number place (chunk_of (spec_of column chunk) span.value)) _ part span.later in
@@ -134,7 +149,7 @@ part_held bytes number place row column group chunk part u at h range =
       first = omega (arith, length-take chunk.first bytes);
       size = omega (arith, length-take chunk.length (drop chunk.first bytes), length-drop chunk.first bytes);
       raw = read.value;
-      says = subst (λ (xs : List ℕ). chunk_of (spec_of column chunk) xs ≡ Ok read.value) (sym inside.1) (page_ok number place _ read.value read.gives);
+      says = (law (spec_of column chunk) here read.value).0 (subst (λ (xs : List ℕ). chunk_of (spec_of column chunk) xs ≡ Ok read.value) (sym inside.1) (page_ok number place _ read.value read.gives));
       typed = refl;
       fit = cells_in_range place column.ty row made.cells u (subst (λ (p : Part). cells_fit p.place p.ty row p.cells ≡ Ok u) (sym same) range);
     } in
@@ -153,10 +168,10 @@ abbrev part_with : ℕ → MetaColumn → List Value → Part
 part_with place column cells = record { place = place; ty = column.ty; cells = cells }
 
 -- what is held of a chunk is found
-part_read : (bytes : List ℕ) (number place : ℕ) (column : MetaColumn) (group : MetaGroup) (chunk : MetaChunk) (cells : List Value) → slice_get group.chunks place ≡ Some chunk
+part_read : ChunksHeld → (bytes : List ℕ) (number place : ℕ) (column : MetaColumn) (group : MetaGroup) (chunk : MetaChunk) (cells : List Value) → slice_get group.chunks place ≡ Some chunk
     → HoldsCells bytes place column group cells → part_of bytes number place column chunk ≡ Ok (part_with place column cells)
 unfolding part_of span_of
-part_read bytes number place column group chunk cells at has =
+part_read law bytes number place column group chunk cells at has =
     let one : has.chunk ≡ chunk = same_chunk has.chunk chunk (sym has.at ∙ at) in
     let first : length has.before ≡ chunk.first = has.first ∙ ap (λ (c : MetaChunk). c.first) one in
     let size : length has.span ≡ chunk.length = has.size ∙ ap (λ (c : MetaChunk). c.length) one in
@@ -166,23 +181,24 @@ part_read bytes number place column group chunk cells at has =
     let here : take chunk.length (drop chunk.first bytes) ≡ has.span =
     ap (λ (xs : List ℕ). take chunk.length xs) (ap (λ (xs : List ℕ). drop chunk.first xs) has.parts ∙ drop_at has.before (has.span ++ has.after) chunk.first first)
     ∙ take_at has.span has.after chunk.length size in
-    let read : chunk_of (spec_of column chunk) has.span ≡ Ok has.raw = subst (λ (c : MetaChunk). chunk_of (spec_of column c) has.span ≡ Ok has.raw) one has.says in
+    let says : IsChunk (spec_of column chunk) has.span has.raw = subst (λ (c : MetaChunk). IsChunk (spec_of column c) has.span has.raw) one has.says in
+    let read : chunk_of (spec_of column chunk) has.span ≡ Ok has.raw = (law (spec_of column chunk) has.span has.raw).1 says in
     let typed : cells_of column.ty has.raw ≡ cells = sym has.typed in
     rw (inside, here, read, typed) refl
 
-part_found : (bytes : List ℕ) (number place row : ℕ) (column : MetaColumn) (group : MetaGroup) (chunk : MetaChunk) (cells : List Value) → slice_get group.chunks place ≡ Some chunk
+part_found : ChunksHeld → (bytes : List ℕ) (number place row : ℕ) (column : MetaColumn) (group : MetaGroup) (chunk : MetaChunk) (cells : List Value) → slice_get group.chunks place ≡ Some chunk
     → HoldsCells bytes place column group cells → FoundPart row (part_of bytes number place column chunk)
-part_found bytes number place row column group chunk cells at has = record {
+part_found law bytes number place row column group chunk cells at has = record {
   part = part_with place column cells;
-  gives = part_read bytes number place column group chunk cells at has;
+  gives = part_read law bytes number place column group chunk cells at has;
   fit = cells_back place row column.ty cells has.fit;
 }
 
 -- a group holds no other cells of a column
-cells_only : (bytes : List ℕ) (place : ℕ) (column : MetaColumn) (group : MetaGroup) (a b : List Value) → HoldsCells bytes place column group a → HoldsCells bytes place column group b → a ≡ b
-cells_only bytes place column group a b has also =
-    let one = part_read bytes 0 place column group has.chunk a has.at has in
-    let two = part_read bytes 0 place column group has.chunk b has.at also in
+cells_only : ChunksHeld → (bytes : List ℕ) (place : ℕ) (column : MetaColumn) (group : MetaGroup) (a b : List Value) → HoldsCells bytes place column group a → HoldsCells bytes place column group b → a ≡ b
+cells_only law bytes place column group a b has also =
+    let one = part_read law bytes 0 place column group has.chunk a has.at has in
+    let two = part_read law bytes 0 place column group has.chunk b has.at also in
     ap (λ (p : Part). p.cells) (ok_same (part_with place column a) (part_with place column b) (sym one ∙ two))
 
 -- ---- The parts of a group
@@ -218,17 +234,17 @@ parts_held_step true bytes row group x xs one others parts u first rest h range 
     subst (λ (ps : List Part). AllZip (IsHeld bytes group) (x ∷ xs) ps) same
     (first part.value good.value part.gives good.gives, rest more.value u more.gives good.later)
 
-parts_held : (bytes : List ℕ) (fields : Option (List ℕ)) (number place row : ℕ) (group : MetaGroup) (columns : List MetaColumn) (chunks : List MetaChunk) (parts : List Part) (u : ⊤)
+parts_held : ChunksHeld → (bytes : List ℕ) (fields : Option (List ℕ)) (number place row : ℕ) (group : MetaGroup) (columns : List MetaColumn) (chunks : List MetaChunk) (parts : List Part) (u : ⊤)
     → length chunks ≡ length columns → drop place group.chunks ≡ chunks → parts_in bytes fields number place columns chunks ≡ Ok parts → parts_fit row parts ≡ Ok u
     → AllZip (IsHeld bytes group) (wanted_from fields place columns) parts
-parts_held bytes fields number place row group [] chunks [] u same at h range = tt
-parts_held bytes fields number place row group [] chunks (p ∷ ps) u same at h range = cc
-parts_held bytes fields number place row group (column ∷ columns) [] parts u same at h range = absurd (omega arith)
-parts_held bytes fields number place row group (column ∷ columns) (chunk ∷ chunks) parts u same at h range =
+parts_held law bytes fields number place row group [] chunks [] u same at h range = tt
+parts_held law bytes fields number place row group [] chunks (p ∷ ps) u same at h range = cc
+parts_held law bytes fields number place row group (column ∷ columns) [] parts u same at h range = absurd (omega arith)
+parts_held law bytes fields number place row group (column ∷ columns) (chunk ∷ chunks) parts u same at h range =
     parts_held_step (is_wanted fields column) bytes row group (place, column) (wanted_from fields (place + 1) columns)
     (part_of bytes number place column chunk) (parts_in bytes fields number (place + 1) columns chunks) parts u
-    (λ part v read good. part_held bytes number place row column group chunk part v (first_at group.chunks place chunk chunks at) read good)
-    (λ ps v read good. parts_held bytes fields number (place + 1) row group columns chunks ps v (omega arith) (behind_at group.chunks place chunk chunks at) read good)
+    (λ part v read good. part_held law bytes number place row column group chunk part v (first_at group.chunks place chunk chunks at) read good)
+    (λ ps v read good. parts_held law bytes fields number (place + 1) row group columns chunks ps v (omega arith) (behind_at group.chunks place chunk chunks at) read good)
     h range
 
 -- a group holds some cells of a column
@@ -255,16 +271,16 @@ parts_found_step true bytes row group x xs one others first rest some =
       fit = rw part.fit more.fit;
     }
 
-parts_found : (bytes : List ℕ) (fields : Option (List ℕ)) (number place row : ℕ) (group : MetaGroup) (columns : List MetaColumn) (chunks : List MetaChunk)
+parts_found : ChunksHeld → (bytes : List ℕ) (fields : Option (List ℕ)) (number place row : ℕ) (group : MetaGroup) (columns : List MetaColumn) (chunks : List MetaChunk)
     → length chunks ≡ length columns → drop place group.chunks ≡ chunks → All (HoldsSome bytes group) (wanted_from fields place columns)
     → FoundParts row (parts_in bytes fields number place columns chunks)
-parts_found bytes fields number place row group [] chunks same at some = record { parts = []; gives = refl; fit = refl }
-parts_found bytes fields number place row group (column ∷ columns) [] same at some = absurd (omega arith)
-parts_found bytes fields number place row group (column ∷ columns) (chunk ∷ chunks) same at some =
+parts_found law bytes fields number place row group [] chunks same at some = record { parts = []; gives = refl; fit = refl }
+parts_found law bytes fields number place row group (column ∷ columns) [] same at some = absurd (omega arith)
+parts_found law bytes fields number place row group (column ∷ columns) (chunk ∷ chunks) same at some =
     parts_found_step (is_wanted fields column) bytes row group (place, column) (wanted_from fields (place + 1) columns)
     (part_of bytes number place column chunk) (parts_in bytes fields number (place + 1) columns chunks)
-    (λ has. part_found bytes number place row column group chunk has.cells (first_at group.chunks place chunk chunks at) has.held)
-    (λ more. parts_found bytes fields number (place + 1) row group columns chunks (omega arith) (behind_at group.chunks place chunk chunks at) more)
+    (λ has. part_found law bytes number place row column group chunk has.cells (first_at group.chunks place chunk chunks at) has.held)
+    (λ more. parts_found law bytes fields number (place + 1) row group columns chunks (omega arith) (behind_at group.chunks place chunk chunks at) more)
     some
 
 -- ---- Columns, as far as they were read
@@ -310,23 +326,23 @@ bare_held bytes fields place [] = tt
 bare_held bytes fields place (column ∷ columns) =
     bare_held_step (is_wanted fields column) bytes (place, column) (wanted_from fields (place + 1) columns) (filter (is_wanted fields) columns) (bare_held bytes fields (place + 1) columns)
 
-groups_held : (bytes : List ℕ) (fields : Option (List ℕ)) (metas : List MetaColumn) (number row : ℕ) (all done groups : List MetaGroup) (read : List GroupParts) (columns : List SheetColumn) (u : ⊤)
+groups_held : ChunksHeld → (bytes : List ℕ) (fields : Option (List ℕ)) (metas : List MetaColumn) (number row : ℕ) (all done groups : List MetaGroup) (read : List GroupParts) (columns : List SheetColumn) (u : ⊤)
     → done ++ groups ≡ all → All (FitsColumns (length metas)) groups → groups_in bytes fields metas number groups ≡ Ok read → groups_fit row read ≡ Ok u
     → AllZip (HoldsColumn bytes done) (wanted_from fields 0 metas) columns → AllZip (HoldsColumn bytes all) (wanted_from fields 0 metas) (fold with_group columns read)
-groups_held bytes fields metas number row all done [] [] columns u is fit h range had =
+groups_held law bytes fields metas number row all done [] [] columns u is fit h range had =
     subst (λ (gs : List MetaGroup). AllZip (HoldsColumn bytes gs) (wanted_from fields 0 metas) columns) (sym (append-nil done) ∙ is) had
-groups_held bytes fields metas number row all done [] (p ∷ ps) columns u is fit h range had = cc
-groups_held bytes fields metas number row all done (g ∷ gs) read columns u is fit h range had =
+groups_held law bytes fields metas number row all done [] (p ∷ ps) columns u is fit h range had = cc
+groups_held law bytes fields metas number row all done (g ∷ gs) read columns u is fit h range had =
     let one = steps (parts_in bytes fields number 0 metas g.chunks) _ read h in
     let more = steps (groups_in bytes fields metas (number + 1) gs) _ read one.later in
     let first : GroupParts = record { rows = g.rows; parts = one.value } in
     let same : first ∷ more.value ≡ read = ok_same (first ∷ more.value) read more.later in
     let good = steps (parts_fit row one.value) (λ v. groups_fit (row + g.rows) more.value) u (rw (← same) at range) in
     let here = All-head (FitsColumns (length metas)) g gs fit in
-    let held = parts_held bytes fields number 0 row g metas g.chunks one.value good.value here.count refl one.gives good.gives in
+    let held = parts_held law bytes fields number 0 row g metas g.chunks one.value good.value here.count refl one.gives good.gives in
     let longer = beside_held bytes done g (wanted_from fields 0 metas) columns one.value had held in
     subst (λ (r : List GroupParts). AllZip (HoldsColumn bytes all) (wanted_from fields 0 metas) (fold with_group columns r)) same
-    (groups_held bytes fields metas (number + 1) (row + g.rows) all (done ++ g ∷ []) gs more.value (beside columns one.value) u (append_assoc done (g ∷ []) gs ∙ is)
+    (groups_held law bytes fields metas (number + 1) (row + g.rows) all (done ++ g ∷ []) gs more.value (beside columns one.value) u (append_assoc done (g ∷ []) gs ∙ is)
     (All-tail (FitsColumns (length metas)) g gs fit) more.gives good.later longer)
 
 -- ---- The groups, where the columns are held
@@ -351,13 +367,13 @@ record FoundGroups (row : ℕ) (read : Result (List GroupParts) FileFault) : Typ
   gives : read ≡ Ok groups
   fit : groups_fit row groups ≡ Ok tt
 
-groups_found : (bytes : List ℕ) (fields : Option (List ℕ)) (metas : List MetaColumn) (number row : ℕ) (groups : List MetaGroup) → All (FitsColumns (length metas)) groups
+groups_found : ChunksHeld → (bytes : List ℕ) (fields : Option (List ℕ)) (metas : List MetaColumn) (number row : ℕ) (groups : List MetaGroup) → All (FitsColumns (length metas)) groups
     → All (HoldsPieces bytes groups) (wanted_from fields 0 metas) → FoundGroups row (groups_in bytes fields metas number groups)
-groups_found bytes fields metas number row [] fit hold = record { groups = []; gives = refl; fit = refl }
-groups_found bytes fields metas number row (g ∷ gs) fit hold =
+groups_found law bytes fields metas number row [] fit hold = record { groups = []; gives = refl; fit = refl }
+groups_found law bytes fields metas number row (g ∷ gs) fit hold =
     let here = All-head (FitsColumns (length metas)) g gs fit in
-    let one = parts_found bytes fields number 0 row g metas g.chunks here.count refl (λ k d lt. first_held bytes g gs _ (hold k d lt).pieces (hold k d lt).held) in
-    let more = groups_found bytes fields metas (number + 1) (row + g.rows) gs (All-tail (FitsColumns (length metas)) g gs fit)
+    let one = parts_found law bytes fields number 0 row g metas g.chunks here.count refl (λ k d lt. first_held bytes g gs _ (hold k d lt).pieces (hold k d lt).held) in
+    let more = groups_found law bytes fields metas (number + 1) (row + g.rows) gs (All-tail (FitsColumns (length metas)) g gs fit)
     (λ k d lt. others_held bytes g gs _ (hold k d lt).pieces (hold k d lt).held) in
     record {
       groups = record { rows = g.rows; parts = one.parts } ∷ more.groups;
@@ -374,39 +390,39 @@ columns_pieces bytes groups (x ∷ xs) (c ∷ cs) held =
 
 -- ---- No other columns are held
 
-pieces_only : (bytes : List ℕ) (place : ℕ) (column : MetaColumn) (groups : List MetaGroup) (ps qs : List (List Value)) → AllZip (HoldsCells bytes place column) groups ps
+pieces_only : ChunksHeld → (bytes : List ℕ) (place : ℕ) (column : MetaColumn) (groups : List MetaGroup) (ps qs : List (List Value)) → AllZip (HoldsCells bytes place column) groups ps
     → AllZip (HoldsCells bytes place column) groups qs → ps ≡ qs
-pieces_only bytes place column [] [] [] h k = refl
-pieces_only bytes place column [] [] (q ∷ qs) h k = absurd k
-pieces_only bytes place column [] (p ∷ ps) qs h k = absurd h
-pieces_only bytes place column (g ∷ gs) [] qs h k = absurd h
-pieces_only bytes place column (g ∷ gs) (p ∷ ps) [] h k = absurd k
-pieces_only bytes place column (g ∷ gs) (p ∷ ps) (q ∷ qs) h k = rw (cells_only bytes place column g p q h.0 k.0, pieces_only bytes place column gs ps qs h.1 k.1) refl
+pieces_only law bytes place column [] [] [] h k = refl
+pieces_only law bytes place column [] [] (q ∷ qs) h k = absurd k
+pieces_only law bytes place column [] (p ∷ ps) qs h k = absurd h
+pieces_only law bytes place column (g ∷ gs) [] qs h k = absurd h
+pieces_only law bytes place column (g ∷ gs) (p ∷ ps) [] h k = absurd k
+pieces_only law bytes place column (g ∷ gs) (p ∷ ps) (q ∷ qs) h k = rw (cells_only law bytes place column g p q h.0 k.0, pieces_only law bytes place column gs ps qs h.1 k.1) refl
 
-column_only : (bytes : List ℕ) (groups : List MetaGroup) (x : ℕ × MetaColumn) (a b : SheetColumn) → HoldsColumn bytes groups x a → HoldsColumn bytes groups x b → a ≡ b
-column_only bytes groups x a b has also =
+column_only : ChunksHeld → (bytes : List ℕ) (groups : List MetaGroup) (x : ℕ × MetaColumn) (a b : SheetColumn) → HoldsColumn bytes groups x a → HoldsColumn bytes groups x b → a ≡ b
+column_only law bytes groups x a b has also =
     has.same
-    ∙ ap (λ (ps : List (List Value)). record (bare x.1) { cells = joined ps }) (pieces_only bytes x.0 x.1 groups has.pieces also.pieces has.held also.held)
+    ∙ ap (λ (ps : List (List Value)). record (bare x.1) { cells = joined ps }) (pieces_only law bytes x.0 x.1 groups has.pieces also.pieces has.held also.held)
     ∙ sym also.same
 
-columns_only : (bytes : List ℕ) (groups : List MetaGroup) (xs : List (ℕ × MetaColumn)) (ones others : List SheetColumn) → AllZip (HoldsColumn bytes groups) xs ones → AllZip (HoldsColumn bytes groups) xs others → ones ≡ others
-columns_only bytes groups [] [] [] h k = refl
-columns_only bytes groups [] [] (b ∷ others) h k = absurd k
-columns_only bytes groups [] (a ∷ ones) others h k = absurd h
-columns_only bytes groups (x ∷ xs) [] others h k = absurd h
-columns_only bytes groups (x ∷ xs) (a ∷ ones) [] h k = absurd k
-columns_only bytes groups (x ∷ xs) (a ∷ ones) (b ∷ others) h k = rw (column_only bytes groups x a b h.0 k.0, columns_only bytes groups xs ones others h.1 k.1) refl
+columns_only : ChunksHeld → (bytes : List ℕ) (groups : List MetaGroup) (xs : List (ℕ × MetaColumn)) (ones others : List SheetColumn) → AllZip (HoldsColumn bytes groups) xs ones → AllZip (HoldsColumn bytes groups) xs others → ones ≡ others
+columns_only law bytes groups [] [] [] h k = refl
+columns_only law bytes groups [] [] (b ∷ others) h k = absurd k
+columns_only law bytes groups [] (a ∷ ones) others h k = absurd h
+columns_only law bytes groups (x ∷ xs) [] others h k = absurd h
+columns_only law bytes groups (x ∷ xs) (a ∷ ones) [] h k = absurd k
+columns_only law bytes groups (x ∷ xs) (a ∷ ones) (b ∷ others) h k = rw (column_only law bytes groups x a b h.0 k.0, columns_only law bytes groups xs ones others h.1 k.1) refl
 
 -- ---- The file
 
-pub file_held : FootersConsistent → (fields : Option (List ℕ)) (bytes : List ℕ) (sheet : Sheet) → file_of fields bytes ≡ Ok sheet → IsReading fields bytes sheet
+pub file_held : Laws → (fields : Option (List ℕ)) (bytes : List ℕ) (sheet : Sheet) → file_of fields bytes ≡ Ok sheet → IsReading fields bytes sheet
 unfolding file_of sheet_in
-file_held law fields bytes sheet h =
+file_held laws fields bytes sheet h =
     let footer = steps (footer_in bytes) _ sheet h in
     let meta = steps (of_meta (footer_of footer.value)) _ sheet footer.later in
     let m : FileMeta = meta.value in
     let says : footer_of footer.value ≡ Ok m = meta_ok _ m meta.gives in
-    let fit = law footer.value m says in
+    let fit = laws.consistent footer.value m says in
     let few = steps (few_rows m.num_rows) _ sheet meta.later in
     let read = steps (groups_in bytes fields m.columns 0 m.groups) _ sheet few.later in
     let range = steps (groups_fit 0 read.value) _ sheet read.later in
@@ -415,29 +431,30 @@ file_held law fields bytes sheet h =
       footer = footer.value;
       frame = footer_held bytes footer.value footer.gives;
       meta = m;
-      says = says;
+      says = (laws.footers footer.value m).0 says;
       few_rows = few_ok m.num_rows few.value few.gives;
       rows = refl;
-      columns = groups_held bytes fields m.columns 0 0 m.groups [] m.groups read.value (map bare (filter (is_wanted fields) m.columns)) range.value refl fit.groups read.gives range.gives
+      columns = groups_held laws.chunks bytes fields m.columns 0 0 m.groups [] m.groups read.value (map bare (filter (is_wanted fields) m.columns)) range.value refl fit.groups read.gives range.gives
           (bare_held bytes fields 0 m.columns);
     } in
     subst (IsReading fields bytes) (ok_same made sheet range.later) is
 
-pub file_found : FootersConsistent → (fields : Option (List ℕ)) (bytes : List ℕ) (sheet : Sheet) → IsReading fields bytes sheet → file_of fields bytes ≡ Ok sheet
+pub file_found : Laws → (fields : Option (List ℕ)) (bytes : List ℕ) (sheet : Sheet) → IsReading fields bytes sheet → file_of fields bytes ≡ Ok sheet
 unfolding file_of sheet_in
-file_found law fields bytes sheet is =
+file_found laws fields bytes sheet is =
     let m : FileMeta = is.meta in
-    let fit = law is.footer m is.says in
+    let says : footer_of is.footer ≡ Ok m = (laws.footers is.footer m).1 is.says in
+    let fit = laws.consistent is.footer m says in
     let few : nat_lt most_rows m.num_rows ≡ false = le-ltb _ _ is.few_rows in
-    let found = groups_found bytes fields m.columns 0 0 m.groups fit.groups (columns_pieces bytes m.groups (wanted_of fields m.columns) sheet.columns is.columns) in
+    let found = groups_found laws.chunks bytes fields m.columns 0 0 m.groups fit.groups (columns_pieces bytes m.groups (wanted_of fields m.columns) sheet.columns is.columns) in
     let bares : List SheetColumn = map bare (filter (is_wanted fields) m.columns) in
-    let held = groups_held bytes fields m.columns 0 0 m.groups [] m.groups found.groups bares tt refl fit.groups found.gives found.fit (bare_held bytes fields 0 m.columns) in
-    let columns : fold with_group bares found.groups ≡ sheet.columns = columns_only bytes m.groups (wanted_of fields m.columns) (fold with_group bares found.groups) sheet.columns held is.columns in
+    let held = groups_held laws.chunks bytes fields m.columns 0 0 m.groups [] m.groups found.groups bares tt refl fit.groups found.gives found.fit (bare_held bytes fields 0 m.columns) in
+    let columns : fold with_group bares found.groups ≡ sheet.columns = columns_only laws.chunks bytes m.groups (wanted_of fields m.columns) (fold with_group bares found.groups) sheet.columns held is.columns in
     let rows : m.num_rows ≡ sheet.rows = sym is.rows in
-    rw (footer_found bytes is.footer is.frame, is.says, few, found.gives, found.fit, columns, rows) refl
+    rw (footer_found bytes is.footer is.frame, says, few, found.gives, found.fit, columns, rows) refl
 
-pub held_both : FootersConsistent → (fields : Option (List ℕ)) (bytes : List ℕ) (sheet : Sheet) → (file_of fields bytes ≡ Ok sheet) ↔ IsReading fields bytes sheet
-held_both law fields bytes sheet = (file_held law fields bytes sheet, file_found law fields bytes sheet)
+pub held_both : Laws → (fields : Option (List ℕ)) (bytes : List ℕ) (sheet : Sheet) → (file_of fields bytes ≡ Ok sheet) ↔ IsReading fields bytes sheet
+held_both laws fields bytes sheet = (file_held laws fields bytes sheet, file_found laws fields bytes sheet)
 
 -- what is answered is the one sheet that is held, or a fault where none is
 pub answer_held : (fields : Option (List ℕ)) (bytes : List ℕ) (answer read : Result Sheet FileFault) → ((sheet : Sheet) → (read ≡ Ok sheet) ↔ IsReading fields bytes sheet) → Answers answer read

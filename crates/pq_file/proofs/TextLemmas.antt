@@ -1,5 +1,5 @@
 -- Byte strings as values, one turn of a loop at a time.
-use Rattle.std.proofs.Common.{◌≡◌, ℕ, zero, List, [], ◌∷◌, ◌++◌, All, Vec, Global, map, refl, sym, ◌∙◌, append_assoc, arith}
+use Rattle.std.proofs.Common.{◌≡◌, ℕ, zero, List, [], ◌∷◌, ◌++◌, All, Vec, Global, map, refl, arith}
 use Rattle.std.proofs.lemmas.List.Elements.{All-tail}
 use Rattle.std.specs.Str.{IsUtf8}
 use Rattle.lake_types.specs.declared.value.Value.{Value}

@@ -1,5 +1,5 @@
 -- Which sheet a file holds, said of the whole file at once, whatever a reader looks at first.
-use Rattle.std.specs.Prelude.{◌≡◌, ◌≤◌, ℕ, ◌++◌, List, [], length, filter, All, Option, Some, None, Result, Ok, Err, true}
+use Rattle.std.specs.Prelude.{◌≡◌, ◌≤◌, ℕ, ◌++◌, List, length, filter, All, Option, Some, Result, Ok, Err, true}
 use Rattle.std.specs.List.{AllZip, enumerate_from, flat_map, slice_get}
 use Rattle.byteorder.specs.Endian.{little_number}
 use Rattle.lake_types.specs.declared.sheet.Sheet.{Sheet}
@@ -10,8 +10,9 @@ use Rattle.pq_meta.specs.declared.meta.FileMeta.{FileMeta}
 use Rattle.pq_meta.specs.declared.meta.MetaChunk.{MetaChunk}
 use Rattle.pq_meta.specs.declared.meta.MetaColumn.{MetaColumn}
 use Rattle.pq_meta.specs.declared.meta.MetaGroup.{MetaGroup}
-use Rattle.pq_meta.specs.Footers.{footer_of}
-use Rattle.pq_pages.specs.Pages.{Cells, chunk_of}
+use Rattle.pq_meta.specs.Holding.{IsFooter}
+use Rattle.pq_pages.specs.Holding.{IsChunk}
+use Rattle.pq_pages.specs.Pages.{Cells}
 use Rattle.pq_file.specs.declared.fault.FileFault.{FileFault}
 use Rattle.pq_file.specs.declared.fault.FileFault.TheVariants as fault
 use Rattle.pq_file.specs.Cells.{cells_of}
@@ -38,7 +39,7 @@ pub record HoldsCells (bytes : List ℕ) (place : ℕ) (column : MetaColumn) (gr
   pub first : length before ≡ chunk.first
   pub size : length span ≡ chunk.length
   pub raw : Cells
-  pub says : chunk_of (spec_of column chunk) span ≡ Ok raw
+  pub says : IsChunk (spec_of column chunk) span raw
   pub typed : cells ≡ cells_of column.ty raw
   pub fit : All (λ cell. fits cell column.ty ≡ true) cells
 
@@ -57,7 +58,7 @@ pub record IsReading (fields : Option (List ℕ)) (bytes : List ℕ) (sheet : Sh
   pub footer : List ℕ
   pub frame : HasFooter bytes footer
   pub meta : FileMeta
-  pub says : footer_of footer ≡ Ok meta
+  pub says : IsFooter footer meta
   pub few_rows : meta.num_rows ≤ most_rows
   pub rows : sheet.rows ≡ meta.num_rows
   pub columns : AllZip (HoldsColumn bytes meta.groups) (wanted_of fields meta.columns) sheet.columns

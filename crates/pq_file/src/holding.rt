@@ -10,6 +10,8 @@ pub fn reads_what_is_held()
     ensures { (fields : Option (List ℕ)) (bytes : List ℕ) (sheet : Sheet) → (file_of fields bytes ≡ Ok sheet) ↔ IsReading fields bytes sheet }
 {
     pq_meta::reads_consistent();
+    pq_meta::reads_what_is_held();
+    pq_pages::reads_what_is_held();
 }
 
 /// A file that holds a sheet of all its columns holds, of those with some field ids, that sheet without the others.
