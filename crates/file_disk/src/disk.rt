@@ -72,8 +72,10 @@ pub trait FileDisk {
         ensures bytes { IfOk result (λ draft. draft_bytes draft ≡ []) }
 
         // `Exists` comes exactly where the name is there, and on a disk that tells no names by a fault.
-        ensures exists { IfSome (files self.old) (λ old. IsErrOf result DiskNo.Exists ↔ IsSome (old name.now)) }
-        ensures exists_untold { IfNone (files self.old) (IsErrOf result DiskNo.Exists → Rose (faults self.old) (faults self.new)) }
+        ensures exists { IfSome (files self.old) (λ old.
+            IsErrOf result DiskNo.Exists ↔ IsSome (old name.now)) }
+        ensures exists_untold { IfNone (files self.old)
+            (IsErrOf result DiskNo.Exists → Rose (faults self.old) (faults self.new)) }
         ensures cause { HasCause (faults self.old) (faults self.new) result }
 
         ensures files { Changes (Creates name.now result) (files self.old) (files self.new) }
@@ -84,7 +86,8 @@ pub trait FileDisk {
     /// Adds a piece at the draft's end.
     fn append(&mut self, alloc: Global, draft: &mut Self::Draft, piece: &[u8]) -> Result<(), DiskNo>
         ensures name { draft_name draft.new ≡ draft_name draft.old }
-        ensures bytes { OnSome (files self.old) (OnOk result (draft_bytes draft.new ≡ draft_bytes draft.old ++ piece.now)) }
+        ensures bytes { OnSome (files self.old)
+            (OnOk result (draft_bytes draft.new ≡ draft_bytes draft.old ++ piece.now)) }
         ensures err { OnErr result (draft_bytes draft.new ≡ draft_bytes draft.old) }
 
         ensures exists { IsErrOf result DiskNo.Exists → ⊥ }
@@ -100,15 +103,18 @@ pub trait FileDisk {
     fn sync(&mut self, draft: Self::Draft) -> Result<Self::File, (Self::Draft, DiskNo)>
         ensures name { IfOk result (λ file. Self.File.name file ≡ draft_name draft) }
         ensures own_part { IfOk result (λ file. Self.File.part file ≡ part self.new) }
-        ensures bytes { OnSome (files self.old) (IfOk result (λ file. Self.File.bytes file ≡ Some (draft_bytes draft))) }
-        ensures durable { OnOk result (IsDurable (draft_name draft) (draft_bytes draft) (files self.old) (images self.new)) }
+        ensures bytes { OnSome (files self.old)
+            (IfOk result (λ file. Self.File.bytes file ≡ Some (draft_bytes draft))) }
+        ensures durable { OnOk result
+            (IsDurable (draft_name draft) (draft_bytes draft) (files self.old) (images self.new)) }
 
         // A refusal gives the draft back.
         ensures back { IfErr result (λ back. back.0 ≡ draft) }
         ensures failed { IfErr result (λ back. back.1 ≡ DiskNo.Failed) }
         ensures cause { FailsByFault (faults self.old) (faults self.new) result }
 
-        ensures files { Changes (Seals (draft_name draft) (draft_bytes draft) result) (files self.old) (files self.new) }
+        ensures files { Changes (Seals (draft_name draft) (draft_bytes draft) result)
+            (files self.old) (files self.new) }
         ensures images { Touches MayBecomeAny (draft_name draft) (images self.old) (images self.new) }
         ensures opens { opens self.new ≡ opens self.old }
         ensures part { part self.new ≡ part self.old };
@@ -117,7 +123,8 @@ pub trait FileDisk {
     fn find(&mut self, alloc: Global, name: &Words) -> Result<Option<Self::File>, DiskNo>
         ensures name { IfOk result (λ found. IfSome found (λ file. Self.File.name file ≡ name.now)) }
         ensures own_part { IfOk result (λ found. IfSome found (λ file. Self.File.part file ≡ part self.new)) }
-        ensures found { IfSome (files self.old) (λ old. IfOk result (λ found. Finds Self.File.bytes found (old name.now))) }
+        ensures found { IfSome (files self.old) (λ old.
+            IfOk result (λ found. Finds Self.File.bytes found (old name.now))) }
 
         ensures exists { IsErrOf result DiskNo.Exists → ⊥ }
         ensures cause { HasCause (faults self.old) (faults self.new) result }
@@ -129,8 +136,10 @@ pub trait FileDisk {
 
     /// The bytes of a file of any part, and none where it was removed from the disk's own.
     fn read(&mut self, alloc: Global, file: &Self::File) -> Result<Option<Vec<u8>>, DiskNo>
-        ensures bytes { IfSome (Self.File.bytes file.now) (λ bytes. IfOk result (λ read. IfSome read (λ got. got.items ≡ bytes))) }
-        ensures gone { IfSome (files self.old) (λ old. IfOk result (λ read. IsNone read ↔ IsGone (part self.old) old (Self.File.part file.now) (Self.File.name file.now))) }
+        ensures bytes { IfSome (Self.File.bytes file.now) (λ bytes.
+            IfOk result (λ read. IfSome read (λ got. got.items ≡ bytes))) }
+        ensures gone { IfSome (files self.old) (λ old. IfOk result (λ read.
+            IsNone read ↔ IsGone (part self.old) old (Self.File.part file.now) (Self.File.name file.now))) }
         ensures opens { opens self.new ≡ raised (opens self.old) }
 
         ensures exists { IsErrOf result DiskNo.Exists → ⊥ }
