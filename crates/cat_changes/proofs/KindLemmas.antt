@@ -7,9 +7,9 @@ use Rattle.std.proofs.lemmas.Bool.{cases_Bool, eqb-true}
 use Rattle.std.proofs.lemmas.Fmt.{decimal_is_IsNumeral, decimal_injective}
 use Rattle.lake_types.specs.declared.kind.Kind.{Kind}
 use Rattle.lake_types.specs.declared.kind.Kind.TheVariants as kind
-use Rattle.lake_types.specs.Kinds.{kind_text}
+use Rattle.lake_types.specs.Kinds.{kind_text, HasId}
 use Rattle.lake_types.specs.Texts.{quoted}
-use Rattle.cat_changes.specs.Changes.{HasId, tail_text}
+use Rattle.cat_changes.specs.Changes.{tail_text}
 use Rattle.cat_changes.specs.Reading.{lacks, unnamed}
 use Rattle.cat_changes.proofs.SignLemmas.{comma_tail, first_cut}
 use Rattle.cat_changes.proofs.QuoteLemmas.{starts_quote, quoted_unique}

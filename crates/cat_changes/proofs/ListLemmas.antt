@@ -5,8 +5,8 @@ use Rattle.std.specs.List.{AllByRecursion, join_with_byte}
 use Rattle.lake_types.specs.declared.kind.Kind.{Kind}
 use Rattle.lake_types.specs.declared.kind.Kind.TheVariants as kind
 use Rattle.lake_types.specs.declared.kind.SchemaName.{SchemaName}
-use Rattle.lake_types.specs.Kinds.{kind_text, changes_text, AreInOrder}
-use Rattle.cat_changes.specs.Changes.{HasId, Says, Gives, IsNamed, AreNamed, name_of, ended, tail_text, IsWrongAt, LacksName}
+use Rattle.lake_types.specs.Kinds.{kind_text, changes_text, AreInOrder, HasId, Says, SaysWith, IsNamed, AreNamed, name_of}
+use Rattle.cat_changes.specs.Changes.{ended, tail_text, IsWrongAt, LacksName}
 use Rattle.cat_changes.specs.Laws.{HasOneList, HasOnePlace, LacksOneName, SaysOrIsWrong}
 use Rattle.cat_changes.specs.Reading.{unnamed, AreUnnamed, IsKindAt}
 use Rattle.cat_changes.proofs.KindLemmas.{kind_cut}
@@ -161,7 +161,7 @@ lacks_one_name schemas text i j u v =
     (same_lists (u.before ++ kind.DroppedSchema i u.name ∷ u.behind) (v.before ++ kind.DroppedSchema j v.name ∷ v.behind) u.says.ids v.says.ids (u.says.spelled ∙ sym v.says.spelled))
     u.named v.named u.lacks v.lacks
 
-pub lacks_gives_none : (schemas : List SchemaName) (text : List ℕ) (id : ℕ) (kinds : List Kind) → LacksName schemas text id → Gives schemas text kinds → ⊥
+pub lacks_gives_none : (schemas : List SchemaName) (text : List ℕ) (id : ℕ) (kinds : List Kind) → LacksName schemas text id → SaysWith schemas text kinds → ⊥
 lacks_gives_none schemas text id kinds l g =
     lacking schemas l.before id l.name l.behind kinds
     (same_lists (l.before ++ kind.DroppedSchema id l.name ∷ l.behind) kinds l.says.ids g.says.ids (l.says.spelled ∙ sym g.says.spelled)) g.named l.lacks

@@ -8,7 +8,8 @@ use Rattle.lake_types.specs.declared.kind.Kind.TheVariants as kind
 use Rattle.lake_types.specs.declared.kind.SchemaName.{SchemaName}
 use Rattle.cat_changes.specs.declared.fault.BadChanges.{BadChanges}
 use Rattle.cat_changes.specs.declared.fault.BadChanges.TheVariants.{Text, NoSchema, Memory}
-use Rattle.cat_changes.specs.Changes.{Says, Gives, IsNamed, name_of, LacksName, HasCause}
+use Rattle.lake_types.specs.Kinds.{Says, SaysWith, IsNamed, name_of}
+use Rattle.cat_changes.specs.Changes.{LacksName, HasCause}
 use Rattle.cat_changes.specs.Reading.{unnamed, AreUnnamed, is_dropped_schema, IsNameless, NamesAll, NamesKind, ReadsText}
 use Rattle.cat_changes.proofs.ListLemmas.{says_same, lacks_gives_none, says_or_is_wrong}
 
@@ -74,7 +75,7 @@ stay_unnamed found kinds h = (refl, needs_none found kinds h)
 
 -- ---- what is given
 
-gives : (schemas : List SchemaName) (text : List ℕ) (kinds named : List Kind) → Says text kinds → NamesAll (name_of schemas) kinds (Ok named) → Gives schemas text named
+gives : (schemas : List SchemaName) (text : List ℕ) (kinds named : List Kind) → Says text kinds → NamesAll (name_of schemas) kinds (Ok named) → SaysWith schemas text named
 gives schemas text kinds named s h = record { says = says_same text kinds named (sym h.0) s; named = h.1 }
 
 lacks_name : (schemas : List SchemaName) (text : List ℕ) (kinds : List Kind) (id : ℕ) → Says text kinds → IsNameless (name_of schemas) kinds id → LacksName schemas text id
@@ -95,7 +96,7 @@ text_cause schemas text (NoSchema id) h = absurd h
 text_cause schemas text Memory h = tt
 
 pub text_none : (schemas : List SchemaName) (text : List ℕ) (fault : BadChanges) → ReadsText text (Err fault) → fault ≢ Memory
-    → (kinds : List Kind) → Gives schemas text kinds → ⊥
+    → (kinds : List Kind) → SaysWith schemas text kinds → ⊥
 text_none schemas text (Text at) h not_memory kinds g = says_or_is_wrong text at kinds h g.says
 text_none schemas text (NoSchema id) h not_memory kinds g = h
 text_none schemas text Memory h not_memory kinds g = not_memory refl
@@ -107,7 +108,7 @@ name_cause schemas text kinds (NoSchema id) s h = lacks_name schemas text kinds 
 name_cause schemas text kinds Memory s h = tt
 
 name_none : (schemas : List SchemaName) (text : List ℕ) (read : List Kind) (fault : BadChanges) → Says text read → NamesAll (name_of schemas) read (Err fault) → fault ≢ Memory
-    → (kinds : List Kind) → Gives schemas text kinds → ⊥
+    → (kinds : List Kind) → SaysWith schemas text kinds → ⊥
 name_none schemas text read (Text at) s h not_memory kinds g = h
 name_none schemas text read (NoSchema id) s h not_memory kinds g = lacks_gives_none schemas text id kinds (lacks_name schemas text read id s h) g
 name_none schemas text read Memory s h not_memory kinds g = not_memory refl
@@ -115,7 +116,7 @@ name_none schemas text read Memory s h not_memory kinds g = not_memory refl
 -- ---- what the whole answers
 
 pub answers_ok : (schemas : List SchemaName) (text : List ℕ) (kinds : List Kind) (r : Result (List Kind) BadChanges) → Says text kinds → NamesAll (name_of schemas) kinds r
-    → IfOk r (λ named. Gives schemas text named)
+    → IfOk r (λ named. SaysWith schemas text named)
 answers_ok schemas text kinds (Ok named) s h = gives schemas text kinds named s h
 answers_ok schemas text kinds (Err fault) s h = tt
 
@@ -125,6 +126,6 @@ answers_cause schemas text kinds (Ok named) s h = tt
 answers_cause schemas text kinds (Err fault) s h = name_cause schemas text kinds fault s h
 
 pub answers_none : (schemas : List SchemaName) (text : List ℕ) (read : List Kind) (r : Result (List Kind) BadChanges) → Says text read → NamesAll (name_of schemas) read r
-    → IfErr r (λ fault. fault ≢ Memory → (kinds : List Kind) → Gives schemas text kinds → ⊥)
+    → IfErr r (λ fault. fault ≢ Memory → (kinds : List Kind) → SaysWith schemas text kinds → ⊥)
 answers_none schemas text read (Ok named) s h = tt
 answers_none schemas text read (Err fault) s h = name_none schemas text read fault s h

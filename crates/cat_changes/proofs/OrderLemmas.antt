@@ -6,8 +6,7 @@ use Rattle.std.specs.Ordering.{is_lt}
 use Rattle.std.specs.List.{AllByRecursion}
 use Rattle.lake_types.specs.declared.kind.Kind.{Kind}
 use Rattle.lake_types.specs.declared.kind.Kind.TheVariants as kind
-use Rattle.lake_types.specs.Kinds.{kind_text, rank, subject, kind_cmp, AreInOrder}
-use Rattle.cat_changes.specs.Changes.{HasId}
+use Rattle.lake_types.specs.Kinds.{kind_text, rank, subject, kind_cmp, AreInOrder, HasId}
 use Rattle.cat_changes.specs.Reading.{unnamed, AreUnnamed}
 
 less : (o : Ordering) → is_lt o ≡ true → o ≡ Less

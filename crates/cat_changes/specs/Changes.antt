@@ -1,55 +1,19 @@
 -- What a changes text says. The spelling of the kinds and their order are those of `lake_types`.
-use Rattle.std.specs.Prelude.{◌≡◌, ◌≢◌, ℕ, ◌<◌, ◌^◌, ◌==◌, List, [], ◌∷◌, ◌++◌, length, flat_map, Option, Some, None}
-use Rattle.std.specs.List.{AllByRecursion, find}
-use Rattle.std.specs.Option.{option_map}
+use Rattle.std.specs.Prelude.{◌≡◌, ◌≢◌, ℕ, List, [], ◌∷◌, ◌++◌, length, flat_map, Option, Some, None}
+use Rattle.std.specs.List.{AllByRecursion}
 use Rattle.lake_types.specs.declared.kind.Kind.{Kind}
 use Rattle.lake_types.specs.declared.kind.Kind.TheVariants as kind
 use Rattle.lake_types.specs.declared.kind.SchemaName.{SchemaName}
-use Rattle.lake_types.specs.Kinds.{kind_text, changes_text, AreInOrder}
+use Rattle.lake_types.specs.Kinds.{kind_text, AreInOrder, HasId, Says, name_of, AreNamed, SaysWith}
 use Rattle.cat_changes.specs.declared.fault.BadChanges.{BadChanges}
 use Rattle.cat_changes.specs.declared.fault.BadChanges.TheVariants.{Text, NoSchema, Memory}
 
--- an id is a number of 64 bits
-abbrev pub HasId : Kind → Type 0
-HasId (kind.CreatedSchema name) = Unit {0}
-HasId (kind.CreatedTable schema name) = Unit {0}
-HasId (kind.InsertedInto table) = table < 2 ^ 64
-HasId (kind.DeletedFrom table) = table < 2 ^ 64
-HasId (kind.Compacted table) = table < 2 ^ 64
-HasId (kind.DroppedSchema id name) = id < 2 ^ 64
-HasId (kind.DroppedTable table) = table < 2 ^ 64
-HasId (kind.Altered table) = table < 2 ^ 64
-
--- the text is that of these kinds, which stand in order, each once. The name of a dropped schema isn't in it.
-pub record Says (text : List ℕ) (kinds : List Kind) : Type 0 where
-  pub in_order : AreInOrder kinds
-  pub ids : AllByRecursion HasId kinds
-  pub spelled : changes_text kinds ≡ text
-
+-- the text is that of no kinds
 abbrev pub SaysNothing : List ℕ → Type 0
 SaysNothing text = (kinds : List Kind) → Says text kinds → ⊥
 
--- ---- the names of dropped schemas
-
--- the name that the list has for an id, the first one where it has more
-abbrev pub name_of : List SchemaName → ℕ → Option (List ℕ)
-name_of schemas id = option_map (λ schema. schema.name) (find (λ schema. schema.id == id) schemas)
-
--- a dropped schema has the name that is found for its id
-abbrev pub IsNamed : (ℕ → Option (List ℕ)) → Kind → Type 0
-IsNamed found (kind.DroppedSchema id name) = found id ≡ Some name
-IsNamed found k = Unit {0}
-
-abbrev pub AreNamed : List SchemaName → List Kind → Type 0
-AreNamed schemas kinds = AllByRecursion (IsNamed (name_of schemas)) kinds
-
--- the text is that of these kinds, and the dropped schemas among them have the names of the list
-pub record Gives (schemas : List SchemaName) (text : List ℕ) (kinds : List Kind) : Type 0 where
-  pub says : Says text kinds
-  pub named : AreNamed schemas kinds
-
-abbrev pub GivesNothing : List SchemaName → List ℕ → Type 0
-GivesNothing schemas text = (kinds : List Kind) → Gives schemas text kinds → ⊥
+abbrev pub SaysNothingWith : List SchemaName → List ℕ → Type 0
+SaysNothingWith schemas text = (kinds : List Kind) → SaysWith schemas text kinds → ⊥
 
 -- ---- faults
 

@@ -2,12 +2,13 @@
 use Rattle.std.specs.Prelude.{◌≡◌, ℕ, List}
 use Rattle.lake_types.specs.declared.kind.Kind.{Kind}
 use Rattle.lake_types.specs.declared.kind.SchemaName.{SchemaName}
-use Rattle.cat_changes.specs.Changes.{Gives, IsWrongAt, LacksName, Says}
+use Rattle.lake_types.specs.Kinds.{SaysWith, Says}
+use Rattle.cat_changes.specs.Changes.{IsWrongAt, LacksName}
 
 -- given the names, a text is that of one list of kinds
 abbrev pub HasOneList : Type 0
 HasOneList =
-    (schemas : List SchemaName) (text : List ℕ) (a b : List Kind) → Gives schemas text a → Gives schemas text b → a ≡ b
+    (schemas : List SchemaName) (text : List ℕ) (a b : List Kind) → SaysWith schemas text a → SaysWith schemas text b → a ≡ b
 
 -- a text is wrong at one place
 abbrev pub HasOnePlace : Type 0
@@ -24,4 +25,4 @@ LacksOneName =
 
 abbrev pub GivesOrLacks : Type 0
 GivesOrLacks =
-    (schemas : List SchemaName) (text : List ℕ) (id : ℕ) (kinds : List Kind) → LacksName schemas text id → Gives schemas text kinds → ⊥
+    (schemas : List SchemaName) (text : List ℕ) (id : ℕ) (kinds : List Kind) → LacksName schemas text id → SaysWith schemas text kinds → ⊥

@@ -5,10 +5,10 @@ use Rattle.std.specs.Option.{option_map}
 use Rattle.std.specs.Borrow.{Bor}
 use Rattle.lake_types.specs.declared.kind.Kind.{Kind}
 use Rattle.lake_types.specs.declared.kind.Kind.TheVariants as kind
-use Rattle.lake_types.specs.Kinds.{kind_text}
+use Rattle.lake_types.specs.Kinds.{kind_text, HasId, IsNamed, Says}
 use Rattle.cat_changes.specs.declared.fault.BadChanges.{BadChanges}
 use Rattle.cat_changes.specs.declared.fault.BadChanges.TheVariants.{Text, NoSchema, Memory}
-use Rattle.cat_changes.specs.Changes.{HasId, IsNamed, IsWrongAt, Says, tail_text}
+use Rattle.cat_changes.specs.Changes.{IsWrongAt, tail_text}
 
 -- no byte is this one
 abbrev pub lacks : ℕ → List ℕ → Bool

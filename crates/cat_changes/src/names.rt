@@ -2,7 +2,7 @@ ghost use Rattle.std.specs.Prelude.{◌≡◌, ℕ, IfOk};
 ghost use Rattle.std.specs.BTreeMap.{get};
 ghost use Rattle.std.specs.List.{list_any};
 ghost use Rattle.std.specs.Ordering.{nat_cmp};
-ghost use Rattle.cat_changes.specs.Changes.{name_of};
+ghost use Rattle.lake_types.specs.Kinds.{name_of};
 ghost use Rattle.cat_changes.specs.Reading as spec;
 
 use crate::fault::BadChanges;

@@ -1,6 +1,7 @@
 ghost use Rattle.std.specs.Prelude.{◌≡◌, ◌≢◌, ◌++◌, ◌∷◌, ◌<◌, ◌^◌, ℕ, None, true, decimal, IfOk, IfErr, IfSome, codes};
 ghost use Rattle.cat_changes.specs.declared.fault.BadChanges.TheVariants.{Memory};
-ghost use Rattle.cat_changes.specs.Changes.{Gives, GivesNothing, HasCause};
+ghost use Rattle.lake_types.specs.Kinds.{SaysWith};
+ghost use Rattle.cat_changes.specs.Changes.{SaysNothingWith, HasCause};
 ghost use Rattle.cat_changes.specs.Reading as spec;
 
 use crate::fault::BadChanges;
@@ -18,9 +19,9 @@ pub fn read_changes(
     text: &str,
     schemas: &SchemaNames,
 ) -> Result<KindList, BadChanges>
-    ensures ok { IfOk result (λ kinds. Gives schemas.now text.now kinds) }
+    ensures ok { IfOk result (λ kinds. SaysWith schemas.now text.now kinds) }
     ensures cause { IfErr result (λ fault. HasCause schemas.now text.now fault) }
-    ensures none { IfErr result (λ fault. fault ≢ Memory → GivesNothing schemas.now text.now) }
+    ensures none { IfErr result (λ fault. fault ≢ Memory → SaysNothingWith schemas.now text.now) }
 {
     let kinds = kinds_of(alloc, text)?;
     with_names(alloc, kinds, schemas.as_slice())

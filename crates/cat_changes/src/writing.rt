@@ -1,7 +1,7 @@
 ghost use Rattle.std.specs.Prelude.{◌≡◌, ◌++◌, IfOk, OnOk, decimal};
 ghost use Rattle.std.specs.String.{string_bytes};
 ghost use Rattle.lake_types.specs.Kinds as spec;
-ghost use Rattle.cat_changes.specs.Changes.{HasId, Says};
+ghost use Rattle.lake_types.specs.Kinds.{HasId, Says};
 
 use crate::quotes::push_quoted;
 use lake_types::{Kind, KindList, NoMemory, Words};

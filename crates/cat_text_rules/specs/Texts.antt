@@ -8,7 +8,7 @@ use Rattle.cat_rows.specs.declared.batch.Key.{Key}
 use Rattle.cat_rows.specs.declared.batch.Key.TheVariants as key
 use Rattle.cat_rows.specs.declared.history.SnapshotChangesRow.{SnapshotChangesRow}
 use Rattle.cat_rows.specs.declared.schemas.SchemaRow.{SchemaRow}
-use Rattle.cat_changes.specs.Changes.{Gives}
+use Rattle.lake_types.specs.Kinds.{SaysWith}
 use Rattle.cat_rules.specs.Intervals.{kept_of}
 use Rattle.cat_rules.specs.Places.{of_changes}
 use Rattle.cat_rules.specs.Rows.{Names}
@@ -26,7 +26,7 @@ names_ending schemas n = map name_of_schema (filter (λ s. is_end n s.end_snapsh
 
 -- the text says what kinds of change there were, where dropped schemas have these names
 abbrev pub IsRead : List SchemaName → List ℕ → Type 0
-IsRead names text = (kinds : List Kind) × Gives names text kinds
+IsRead names text = (kinds : List Kind) × SaysWith names text kinds
 
 -- a kept snapshot past the first, whose text isn't read with the names of the schemas that end there
 abbrev pub IsUnread : Tables → (ℕ → List SchemaName) → SnapshotChangesRow → Type 0

@@ -9,6 +9,3 @@ mod top;
 
 pub use status::Status;
 pub use top::run;
-
-#[cfg(test)]
-mod tests;

@@ -1,3 +1,3 @@
 pub mod CalendarLemmas
-mod TextLemmas
+pub mod TextLemmas
 pub mod ValueLemmas

@@ -1,12 +1,13 @@
--- The spelling of the kinds of change that a snapshot made: its changes text.
-use Rattle.std.specs.Prelude.{◌≡◌, ℕ, List, [], ◌∷◌, ◌++◌, codes, map, decimal}
-use Rattle.std.specs.List.{join_with_byte}
+-- The kinds of change that a snapshot made: their order, and their spelling, which is its changes text.
+use Rattle.std.specs.Prelude.{◌≡◌, ℕ, ◌<◌, ◌^◌, ◌==◌, List, [], ◌∷◌, ◌++◌, codes, map, find, decimal, Option, Some, option_map}
+use Rattle.std.specs.List.{AllByRecursion, join_with_byte}
 use Rattle.std.specs.declared.cmp.Ordering.{Ordering}
 use Rattle.std.specs.declared.cmp.Ordering.TheVariants.{Less, Equal}
 use Rattle.std.specs.Ordering.{nat_cmp}
 use Rattle.std.specs.Cmp.Lexicographic.{slice_cmp}
 use Rattle.lake_types.specs.declared.kind.Kind.{Kind}
 use Rattle.lake_types.specs.declared.kind.Kind.TheVariants as kind
+use Rattle.lake_types.specs.declared.kind.SchemaName.{SchemaName}
 use Rattle.lake_types.specs.Texts.{quoted}
 
 -- a schema or table that is created is named, since it has no id yet; all others stand by their ids
@@ -62,3 +63,39 @@ abbrev pub AreInOrder : List Kind → Type 0
 AreInOrder [] = Unit {0}
 AreInOrder (k ∷ []) = Unit {0}
 AreInOrder (k ∷ l ∷ kinds) = (kind_cmp k l ≡ Less) × AreInOrder (l ∷ kinds)
+
+-- ---- what a text says
+
+-- an id is a number of 64 bits
+abbrev pub HasId : Kind → Type 0
+HasId (kind.CreatedSchema name) = Unit {0}
+HasId (kind.CreatedTable schema name) = Unit {0}
+HasId (kind.InsertedInto table) = table < 2 ^ 64
+HasId (kind.DeletedFrom table) = table < 2 ^ 64
+HasId (kind.Compacted table) = table < 2 ^ 64
+HasId (kind.DroppedSchema id name) = id < 2 ^ 64
+HasId (kind.DroppedTable table) = table < 2 ^ 64
+HasId (kind.Altered table) = table < 2 ^ 64
+
+-- the text is that of these kinds, which stand in order, each once. The name of a dropped schema isn't in it.
+pub record Says (text : List ℕ) (kinds : List Kind) : Type 0 where
+  pub in_order : AreInOrder kinds
+  pub ids : AllByRecursion HasId kinds
+  pub spelled : changes_text kinds ≡ text
+
+-- the name that a list has for a schema's id, the first one where it has more
+abbrev pub name_of : List SchemaName → ℕ → Option (List ℕ)
+name_of schemas id = option_map (λ schema. schema.name) (find (λ schema. schema.id == id) schemas)
+
+-- a dropped schema has the name that is found for its id
+abbrev pub IsNamed : (ℕ → Option (List ℕ)) → Kind → Type 0
+IsNamed found (kind.DroppedSchema id name) = found id ≡ Some name
+IsNamed found k = Unit {0}
+
+abbrev pub AreNamed : List SchemaName → List Kind → Type 0
+AreNamed schemas kinds = AllByRecursion (IsNamed (name_of schemas)) kinds
+
+-- the text is that of these kinds, and the dropped schemas among them have the names of the list
+pub record SaysWith (schemas : List SchemaName) (text : List ℕ) (kinds : List Kind) : Type 0 where
+  pub says : Says text kinds
+  pub named : AreNamed schemas kinds

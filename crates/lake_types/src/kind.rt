@@ -1,6 +1,10 @@
+ghost use Rattle.std.specs.Prelude.{◌≡◌};
+ghost use Rattle.lake_types.specs.Kinds as spec;
+
 use crate::lists::{Copied, Listed};
 use crate::words::Words;
 use std::alloc::{AllocError, Global};
+use std::cmp::Ordering;
 
 /// What a list of changes does to one schema or table, as the conflict rules see it. Ids are of the catalogue.
 #[derive(Debug, Drop)]
@@ -34,6 +38,49 @@ impl Copied for Kind {
             }),
             Kind::DroppedTable { table } => Ok(Kind::DroppedTable { table: *table }),
             Kind::Altered { table } => Ok(Kind::Altered { table: *table }),
+        }
+    }
+}
+
+impl Kind {
+    /// The place of a kind's sort in a changes text.
+    fn rank(&self) -> u8
+        ensures { result ≡ spec.rank self.now }
+    {
+        match self {
+            Kind::CreatedSchema { .. } => 0,
+            Kind::CreatedTable { .. } => 1,
+            Kind::InsertedInto { .. } => 2,
+            Kind::DeletedFrom { .. } => 3,
+            Kind::Compacted { .. } => 4,
+            Kind::DroppedSchema { .. } => 5,
+            Kind::DroppedTable { .. } => 6,
+            Kind::Altered { .. } => 7,
+        }
+    }
+
+    /// The order of kinds in a changes text: by sort, then by id or by the bytes of the names.
+    pub fn compare(&self, other: &Kind) -> Ordering
+        ensures { result ≡ spec.kind_cmp self.now other.now }
+    {
+        match (self, other) {
+            (Kind::CreatedSchema { name: a }, Kind::CreatedSchema { name: b }) => {
+                a.as_str().as_bytes().cmp(b.as_str().as_bytes())
+            }
+            (
+                Kind::CreatedTable { schema: a, name: c },
+                Kind::CreatedTable { schema: b, name: d },
+            ) => {
+                let schemas = a.as_str().as_bytes().cmp(b.as_str().as_bytes());
+                schemas.then(c.as_str().as_bytes().cmp(d.as_str().as_bytes()))
+            }
+            (Kind::InsertedInto { table: a }, Kind::InsertedInto { table: b }) => a.cmp(b),
+            (Kind::DeletedFrom { table: a }, Kind::DeletedFrom { table: b }) => a.cmp(b),
+            (Kind::Compacted { table: a }, Kind::Compacted { table: b }) => a.cmp(b),
+            (Kind::DroppedSchema { id: a, .. }, Kind::DroppedSchema { id: b, .. }) => a.cmp(b),
+            (Kind::DroppedTable { table: a }, Kind::DroppedTable { table: b }) => a.cmp(b),
+            (Kind::Altered { table: a }, Kind::Altered { table: b }) => a.cmp(b),
+            _ => self.rank().cmp(&other.rank()),
         }
     }
 }

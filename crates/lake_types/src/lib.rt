@@ -6,6 +6,7 @@ mod cells;
 mod dates;
 mod kind;
 pub mod laws;
+pub mod limits;
 mod lists;
 mod pred;
 mod ranges;
@@ -32,6 +33,3 @@ pub use truth::{Truth, compare, compared, is_null, order_of};
 pub use value::{CellValues, ColType, Column, ColumnList, Row, RowList, Value, ValueList};
 pub use weights::{row_weight, weight};
 pub use words::{Blob, NoMemory, Words};
-
-#[cfg(test)]
-mod tests;

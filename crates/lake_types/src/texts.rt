@@ -2,8 +2,9 @@ ghost use Rattle.std.specs.Prelude.{◌≡◌, ◌≢◌, ◌++◌, ◌∷◌, �
 ghost use Rattle.std.specs.Fmt.{signed_decimal};
 ghost use Rattle.std.specs.String.{string_bytes};
 ghost use Rattle.hex.specs.Hex.{IsBytes, encode_lower};
-ghost use Rattle.lake_types.specs.Fits.{fits_some, reach, reaches};
+ghost use Rattle.lake_types.specs.Fits.{fits, fits_some, reach, reaches};
 ghost use Rattle.lake_types.specs.Texts as spec;
+ghost use Rattle.lake_types.specs.declared.value.ColType.{ColType};
 ghost use Rattle.lake_types.specs.declared.value.Value.{Value};
 ghost use Rattle.lake_types.specs.declared.value.Value.TheVariants.{Null};
 ghost use Rattle.lake_types.specs.declared.texts.BadValue.TheVariants.{Memory, Text};
@@ -36,11 +37,12 @@ impl From<AllocError> for BadValue {
 }
 
 /// The catalogue's text of a value: `true` or `false`, a decimal number without leading zeros, the text itself,
-/// lower-case hexadecimal, `YYYY-MM-DD`.
+/// lower-case hexadecimal, `YYYY-MM-DD`. `value_of` gives the value back, of each type that it fits.
 pub fn text_of(alloc: Global, value: &Value) -> Result<Words, NoMemory>
     requires some { value.now ≢ Null }
     requires fits { fits_some value.now ≡ true }
-    ensures { IfOk result (λ text. text ≡ spec.value_text value.now) }
+    ensures text { IfOk result (λ text. text ≡ spec.value_text value.now) }
+    ensures back { IfOk result (λ text. (ty : ColType) → fits value.now ty ≡ true → spec.HasText ty value.now text) }
 {
     match value {
         Value::Null => Words::of(alloc, ""),

@@ -1,5 +1,6 @@
 ghost use Rattle.std.specs.Prelude.{◌≡◌, IfOk};
 ghost use Rattle.std.specs.String.{string_bytes};
+ghost use Rattle.hex.specs.Hex.{IsBytes};
 
 use crate::lists::Copied;
 use std::alloc::{AllocError, Global};
@@ -60,10 +61,13 @@ pub struct Blob {
 
 impl Model for Blob {
     ghost use Rattle.std.specs.Prelude.{List, ℕ};
+    ghost use Rattle.hex.specs.Hex.{IsBytes};
 
     ghost Value = { List ℕ };
 
     ghost view = { λ b. b.bytes.items };
+
+    ghost invariant = { λ b. IsBytes b.bytes.items };
 }
 
 impl Blob {
@@ -83,7 +87,8 @@ impl Blob {
     }
 
     pub fn as_slice(&self) -> &[u8]
-        ensures { result.now ≡ self.now }
+        ensures same { result.now ≡ self.now }
+        ensures bytes { IsBytes self.now }
     {
         self.bytes.as_slice()
     }

@@ -2,7 +2,7 @@ use Rattle.std.proofs.Common.{◌≡◌, ℕ, drop}
 use Rattle.std.specs.BTreeMap.{get}
 use Rattle.std.specs.Option.{option_or}
 use Rattle.std.specs.Ordering.{nat_cmp}
-use Rattle.cat_changes.specs.Changes.{name_of}
+use Rattle.lake_types.specs.Kinds.{name_of}
 use Rattle.cat_changes.specs.Reading.{shown}
 use Rattle.cat_changes.proofs.names.names_of.Given as goal
 

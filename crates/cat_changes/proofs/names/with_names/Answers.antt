@@ -3,7 +3,7 @@ use Rattle.std.specs.BTreeMap.{get}
 use Rattle.std.specs.List.{list_any}
 use Rattle.std.specs.Ordering.{nat_cmp}
 use Rattle.lake_types.specs.declared.kind.Kind.{Kind}
-use Rattle.cat_changes.specs.Changes.{name_of}
+use Rattle.lake_types.specs.Kinds.{name_of}
 use Rattle.cat_changes.specs.Reading.{NamesAll, is_dropped_schema, shown}
 use Rattle.cat_changes.proofs.NameLemmas.{all_named_as, stay_unnamed}
 use Rattle.cat_changes.proofs.names.with_names.Goals as goal

@@ -6,4 +6,4 @@ use Rattle.cat_changes.proofs.order.may_follow.Goals as goal
 pub returns-in-Some : goal.returns-in-Some
 returns-in-Some c =
     follows c.args.kinds.now c.in-Some.last.now c.args.next.now c.is_lt.result c.requires (sym c.in-Some.ensures.value)
-    (c.is_lt.ensures ∙ ap is_lt c.order.ensures)
+    (c.is_lt.ensures ∙ ap is_lt c.compare.ensures)

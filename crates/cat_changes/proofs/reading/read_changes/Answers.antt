@@ -1,6 +1,6 @@
 use Rattle.std.proofs.Common.{rules, ◌≡◌, List, Err, subst}
 use Rattle.lake_types.specs.declared.kind.SchemaName.{SchemaName}
-use Rattle.cat_changes.specs.Changes.{name_of}
+use Rattle.lake_types.specs.Kinds.{name_of}
 use Rattle.cat_changes.specs.Reading.{NamesAll}
 use Rattle.cat_changes.proofs.NameLemmas.{text_cause, text_none, answers_ok, answers_cause, answers_none}
 use Rattle.cat_changes.proofs.reading.read_changes.Goals as goal

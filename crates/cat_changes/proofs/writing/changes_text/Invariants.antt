@@ -1,8 +1,7 @@
 use Rattle.std.proofs.Common.{◌≡◌, ◌++◌, ◌∷◌, flat_map, drop}
 use Rattle.std.specs.String.{string_bytes}
 use Rattle.std.specs.List.{AllByRecursion}
-use Rattle.cat_changes.specs.Changes.{HasId}
-use Rattle.lake_types.specs.Kinds.{kind_text, changes_text}
+use Rattle.lake_types.specs.Kinds.{HasId, kind_text, changes_text}
 use Rattle.cat_changes.proofs.writing.changes_text.Given as goal
 
 -- the text so far, and that of the kinds to come, each behind a comma; the ids of the kinds so far are numbers of 64 bits

@@ -1,4 +1,4 @@
-use crate::{
+use lake_types::{
     BadValue, Blob, Cell, CellValues, ColType, Column, Copied, Item, Listed, Op, Pred, Row, Stmt,
     TableName, Truth, Value, Words, chooses, literal_of, promotes, test_row, text_of, value_of,
 };

@@ -1,5 +1,5 @@
-use crate::{Status, run};
 use lake_io::{FailList, Failed, MemSink, MemSource, Source, SureSink, SureSource};
+use lake_top::{Status, run};
 use std::alloc::{AllocError, Global};
 use std::test::Fail;
 
