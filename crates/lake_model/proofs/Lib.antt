@@ -1,5 +1,1 @@
-pub mod ApplyLemmas
-pub mod CutLemmas
-pub mod ReplayLemmas
-pub mod StepLemmas
-pub mod TextLemmas
+pub mod ExampleLemmas

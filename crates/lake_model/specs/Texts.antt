@@ -1,41 +1,61 @@
 -- The texts of replies.
-use Rattle.std.specs.Prelude.{ℕ, ◌==◌, List, [], ◌∷◌, ◌++◌, codes, flat_map, map, decimal, unwrap_or, if◌then◌else◌}
-use Rattle.std.specs.Fmt.{signed_decimal}
-use Rattle.std.specs.List.{join_with_byte}
-use Rattle.lake_types.specs.Cells.{cell_at}
+use Rattle.std.specs.Prelude.{ℕ, ◌==◌, List, [], ◌∷◌, ◌++◌, codes, flat_map, decimal, if◌then◌else◌}
+use Rattle.lake_types.specs.Kinds.{kind_text}
 use Rattle.lake_types.specs.Texts.{quoted}
+use Rattle.lake_types.specs.declared.kind.Clash.{Clash}
 use Rattle.lake_types.specs.declared.stmt.TableName.{TableName}
-use Rattle.lake_types.specs.declared.value.Column.{Column}
-use Rattle.lake_types.specs.declared.value.Value.{Value}
-use Rattle.lake_types.specs.declared.value.Value.TheVariants as value
 use Rattle.lake_model.specs.declared.answer.Answer.{Answer}
-use Rattle.lake_model.specs.declared.answer.Answer.TheVariants.{Done, Number, InTransaction, NoTransaction, NoTable, NotBuilt, Memory}
-use Rattle.lake_model.specs.declared.answer.Reply.{Reply}
+use Rattle.lake_model.specs.declared.answer.Answer.TheVariants as answer
+use Rattle.lake_model.specs.declared.answer.Counter.{Counter}
+use Rattle.lake_model.specs.declared.answer.Counter.TheVariants as counter
 
 abbrev pub table_text : TableName → List ℕ
 table_text t = quoted t.schema ++ (46 ∷ quoted t.table)
 
+abbrev pub counter_text : Counter → List ℕ
+counter_text (counter.Row table) = codes "row"
+counter_text (counter.Field table) = codes "field"
+counter_text counter.Catalog = codes "catalog"
+counter_text counter.File = codes "file"
+counter_text counter.Snapshot = codes "snapshot"
+counter_text counter.History = codes "history"
+
+abbrev pub two_numbers : ℕ → ℕ → List ℕ
+two_numbers m n = decimal m ++ 32 ∷ decimal n
+
+abbrev pub clash_text : Clash → List ℕ
+clash_text c = decimal c.snapshot ++ 32 ∷ (kind_text c.mine ++ (codes " with " ++ kind_text c.theirs))
+
 abbrev pub answer_text : Answer → List ℕ
-answer_text Done = codes "ok"
-answer_text (Number n) = codes "ok " ++ decimal n
-answer_text InTransaction = codes "in transaction"
-answer_text NoTransaction = codes "no transaction"
-answer_text (NoTable table) = codes "no table " ++ table_text table
-answer_text NotBuilt = codes "not built"
-answer_text Memory = codes "no memory"
-
--- a cell of a BIGINT column, the one type that a table can have so far; the texts of other values come with their types
-abbrev pub cell_text : Value → List ℕ
-cell_text value.Null = codes "NULL"
-cell_text (value.Int n) = signed_decimal n
-cell_text v = []
-
-abbrev pub column_text : List (ℕ × Value) → Column → List ℕ
-column_text cells column = cell_text (unwrap_or (cell_at cells column.field) value.Null)
-
--- the cells of a row in the order of the columns, joined by commas
-abbrev pub row_text : List Column → List (ℕ × Value) → List ℕ
-row_text columns cells = join_with_byte 44 (map (column_text cells) columns)
+answer_text answer.Done = codes "ok"
+answer_text (answer.Number n) = codes "ok " ++ decimal n
+answer_text answer.TooLong = codes "line too long"
+answer_text (answer.Syntax at) = codes "syntax at " ++ decimal at
+answer_text answer.InTransaction = codes "in transaction"
+answer_text answer.NoTransaction = codes "no transaction"
+answer_text answer.ReadOnly = codes "read only"
+answer_text answer.Mixed = codes "mixed"
+answer_text (answer.NoSchema name) = codes "no schema " ++ quoted name
+answer_text (answer.NoTable table) = codes "no table " ++ table_text table
+answer_text (answer.NoColumn name) = codes "no column " ++ quoted name
+answer_text (answer.NameUsed name) = codes "name used " ++ quoted name
+answer_text (answer.NotEmpty name) = codes "not empty " ++ quoted name
+answer_text (answer.NotNull name) = codes "not null " ++ quoted name
+answer_text (answer.WrongType name) = codes "wrong type " ++ quoted name
+answer_text (answer.NoPromotion name) = codes "no promotion " ++ quoted name
+answer_text answer.LastColumn = codes "last column"
+answer_text (answer.Arity want got) = codes "arity " ++ two_numbers want got
+answer_text answer.ManyColumns = codes "many columns"
+answer_text answer.TooLarge = codes "too large"
+answer_text (answer.Spent c) = codes "spent " ++ counter_text c
+answer_text (answer.Conflict c) = codes "conflict " ++ clash_text c
+answer_text (answer.Pinned base) = codes "pinned " ++ decimal base
+answer_text (answer.NotKept first head) = codes "not kept " ++ two_numbers first head
+answer_text answer.Disk = codes "! disk"
+answer_text answer.Keeper = codes "! keeper"
+answer_text (answer.Damaged name) = codes "damaged " ++ name
+answer_text (answer.NameTaken name) = codes "name taken " ++ name
+answer_text answer.Memory = codes "no memory"
 
 -- in a reply's line a line feed is printed as the two characters `\n`
 abbrev pub shown_byte : ℕ → List ℕ
@@ -48,12 +68,9 @@ shown text = flat_map shown_byte text
 abbrev pub head_text : ℕ → ℕ → List ℕ
 head_text session number = decimal session ++ (46 ∷ (decimal number ++ 32 ∷ []))
 
-abbrev pub printed_line : List ℕ → List ℕ → List ℕ
-printed_line head text = head ++ (shown text ++ 10 ∷ [])
+-- a line under a head, of what is shown already
+abbrev pub printed : List ℕ → List ℕ → List ℕ
+printed head text = head ++ (text ++ 10 ∷ [])
 
 abbrev pub printed_row : List ℕ → List ℕ → List ℕ
-printed_row head row = printed_line head (codes "row " ++ row)
-
--- the rows, and then the answer
-abbrev pub reply_text : List ℕ → Reply → List ℕ
-reply_text head reply = flat_map (printed_row head) reply.rows ++ printed_line head (answer_text reply.last)
+printed_row head row = printed head (codes "row " ++ shown row)

@@ -1,18 +1,12 @@
-//! The plain lake: states and what changes make of them, the answer to each statement, and the text of replies.
+//! The plain lake: what the lake is to its users, as definitions over lists, and the plain data that they speak of.
+//! Nothing in it names a file, a row of the catalogue or the structure of the code.
 #![tactic(auto)]
 
 mod answer;
-mod apply;
+mod call;
 mod change;
-mod plan;
-mod state;
-mod texts;
+pub mod examples;
 
-pub use answer::{Answer, Reply, WordsList};
-pub use apply::{
-    Creation, Draft, SchemaDraft, Work, applied, changed, is_ref, settled_table, worked,
-};
-pub use change::{Change, ChangeList, Ref, Txn};
-pub use plan::Plan;
-pub use state::{State, StateList, Table, TableList};
-pub use texts::{push_reply, row_text};
+pub use answer::{Answer, Counter, Reply, WordsList};
+pub use call::{Call, CallReply, Entry, Loss, Open, SnapRow, SnapRows};
+pub use change::{Change, ChangeList, Ref, RowRef, RowRefs, Txn};

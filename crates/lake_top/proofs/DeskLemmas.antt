@@ -5,10 +5,10 @@ use Rattle.std.proofs.lemmas.List.{take-append-drop, take_all}
 use Rattle.std.proofs.Math.Seq.{take-add}
 use Rattle.lake_io.specs.Told.{Takes}
 use Rattle.lake_io.proofs.ToldLemmas.{Takes-nothing, Takes-then}
-use Rattle.lake_model.specs.Cuts.{ended_lines, NoFeed}
-use Rattle.lake_model.specs.Lake.{Lake}
-use Rattle.lake_model.specs.Replay.{replay_text}
-use Rattle.lake_model.proofs.CutLemmas.{ended-line, ended-none, NoFeed-append}
+use Rattle.plain_model.specs.Cuts.{ended_lines, NoFeed}
+use Rattle.plain_model.specs.Lake.{Lake}
+use Rattle.plain_model.specs.Replay.{replay_text}
+use Rattle.plain_model.proofs.CutLemmas.{ended-line, ended-none, NoFeed-append}
 use Rattle.lake_top.specs.Desk.{Desk, text_from, GoesOn, GoesOnWith, Answers, Breaks, Ends, Stops, TellsSome, line_len}
 use Rattle.lake_top.specs.Script.{counted}
 use Rattle.lake_top.specs.declared.desk.Stop.{Stop}

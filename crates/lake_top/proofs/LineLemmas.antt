@@ -1,8 +1,8 @@
 -- What one line is answered by.
 use Rattle.std.proofs.Common.{◌≡◌, ℕ, List, [], ◌∷◌, refl, Bool, true, false}
-use Rattle.lake_model.specs.Lake.{Lake}
-use Rattle.lake_model.specs.Replay.{told, turn}
-use Rattle.lake_model.specs.declared.answer.Reply.{Reply}
+use Rattle.plain_model.specs.Lake.{Lake}
+use Rattle.plain_model.specs.Replay.{told, turn}
+use Rattle.plain_model.specs.declared.answer.Reply.{Reply}
 use Rattle.line_forms.specs.Lines.{is_skipped, shorn}
 use Rattle.lake_top.specs.Desk.{Tells, TellsSome}
 use Rattle.lake_top.specs.Script.{counts_after, line_at}

@@ -5,10 +5,10 @@ use Rattle.std.proofs.Math.Seq.{take-append_seam, take-nil}
 use Rattle.std.proofs.lemmas.List.{take-append-drop}
 use Rattle.lake_io.specs.Told.{Takes, Gives, IsAtEnd}
 use Rattle.lake_io.proofs.ToldLemmas.{Takes-nothing, Takes-then, Gives-nothing, Gives-then}
-use Rattle.lake_model.specs.Cuts.{NoFeed}
-use Rattle.lake_model.specs.Lake.{new_lake}
-use Rattle.lake_model.specs.Replay.{Line, IsReplay, lost_in, replay_text}
-use Rattle.lake_model.proofs.ReplayLemmas.{replay-lost_in}
+use Rattle.plain_model.specs.Cuts.{NoFeed}
+use Rattle.plain_model.specs.Lake.{new_lake}
+use Rattle.plain_model.specs.Replay.{Line, IsReplay, lost_in, replay_text}
+use Rattle.plain_model.proofs.ReplayLemmas.{replay-lost_in}
 use Rattle.lake_top.proofs.DeskLemmas.{answers-none, answers-then, text-none}
 use Rattle.lake_top.specs.Desk.{Answers, Desk, Moves, new_desk, text_from}
 use Rattle.lake_top.specs.Run.{Answered, AnsweredFront, FinishHalts, Halts, IsCutShort, IsFront, IsKept, Outcome, TurnHalts, UsageOutcome, last_line, status_of}

@@ -1,10 +1,10 @@
 -- A desk that answers a script as it comes in.
 use Rattle.std.specs.Prelude.{◌≡◌, ◌≤◌, ℕ, ◌==◌, Bool, List, [], ◌∷◌, ◌++◌, suc, length, Option, if◌then◌else◌}
 use Rattle.lake_io.specs.Told.{Gives, Takes}
-use Rattle.lake_model.specs.Cuts.{ended_lines, NoFeed}
-use Rattle.lake_model.specs.Lake.{Lake, new_lake}
-use Rattle.lake_model.specs.Replay.{Line, turn, replay_text}
-use Rattle.lake_model.specs.declared.answer.Reply.{Reply}
+use Rattle.plain_model.specs.Cuts.{ended_lines, NoFeed}
+use Rattle.plain_model.specs.Lake.{Lake, new_lake}
+use Rattle.plain_model.specs.Replay.{Line, turn, replay_text}
+use Rattle.plain_model.specs.declared.answer.Reply.{Reply}
 use Rattle.lake_top.specs.Script.{counted, no_counts}
 use Rattle.lake_top.specs.declared.desk.Stop.{Stop}
 use Rattle.lake_top.specs.declared.desk.Stop.TheVariants.{Memory, Write}

@@ -1,8 +1,8 @@
 -- What a run has read of its source and written to its sink.
 use Rattle.std.specs.Prelude.{◌≡◌, ◌≤◌, ℕ, Bool, true, false, List, [], ◌∷◌, ◌++◌, length, take, Option, Some, None, codes, ◌⊎◌}
 use Rattle.lake_io.specs.Told.{Gives, IsAtEnd, Takes}
-use Rattle.lake_model.specs.Lake.{new_lake}
-use Rattle.lake_model.specs.Replay.{Line, IsReplay, replay_text}
+use Rattle.plain_model.specs.Lake.{new_lake}
+use Rattle.plain_model.specs.Replay.{Line, IsReplay, replay_text}
 use Rattle.lake_top.specs.Desk.{Desk, Moves, Stops, StopsOff}
 use Rattle.lake_top.specs.Script.{lines_of, lines_within_most, script_lines}
 use Rattle.lake_top.specs.declared.desk.Stop.TheVariants as stop

@@ -1,7 +1,7 @@
 -- The counted lines of a script.
 use Rattle.std.specs.Prelude.{ℕ, ◌+◌, List, [], ◌∷◌, ◌++◌, replicate, slice_index, slice_set, take, if◌then◌else◌}
-use Rattle.lake_model.specs.Cuts.{ended_lines}
-use Rattle.lake_model.specs.Replay.{Line}
+use Rattle.plain_model.specs.Cuts.{ended_lines}
+use Rattle.plain_model.specs.Replay.{Line}
 use Rattle.line_forms.specs.Forms.{stmt_of}
 use Rattle.line_forms.specs.Lines.{is_skipped, session_of, shorn}
 

@@ -1,7 +1,7 @@
 ghost use Rattle.std.specs.Prelude.{◌≡◌, ◌≢◌, ℕ, ◌≤◌, ◌<◌, ◌++◌, ◌∷◌, [], IfErr, IfOk, OnOk, OnErr, length, take};
 ghost use Rattle.lake_io.specs.Causes.{HasCause, Rose};
 ghost use Rattle.lake_io.specs.Told.{Takes};
-ghost use Rattle.lake_model.specs.Cuts.{NoFeed};
+ghost use Rattle.plain_model.specs.Cuts.{NoFeed};
 ghost use Rattle.lake_top.specs.Desk as spec;
 
 use crate::lines::line_text;
@@ -28,7 +28,7 @@ pub struct Desk {
 
 impl Model for Desk {
     ghost use Rattle.std.specs.Prelude.{◌≡◌, length};
-    ghost use Rattle.lake_model.specs.Cuts.{NoFeed};
+    ghost use Rattle.plain_model.specs.Cuts.{NoFeed};
     ghost use Rattle.lake_top.specs.Desk.{Desk as Meaning};
 
     ghost Value = { Meaning };

@@ -1,12 +1,12 @@
 ghost use Rattle.std.specs.Prelude.{◌≡◌, ◌≤◌, ◌++◌, IfOk, OnOk, OnErr, length, slice_index};
-ghost use Rattle.lake_model.specs.Replay.{told, Line};
-ghost use Rattle.lake_model.specs.Step.{step};
+ghost use Rattle.plain_model.specs.Replay.{told, Line};
+ghost use Rattle.plain_model.specs.Step.{step};
 ghost use Rattle.lake_top.specs.Desk.{IsTurn, TellsSome};
 ghost use Rattle.lake_top.specs.Script.{line_at, counts_after};
 ghost use Rattle.line_forms.specs.Forms as forms;
 ghost use Rattle.line_forms.specs.Lines as lines;
 
-use lake_model::{Answer, Reply, push_reply};
+use plain_model::{Answer, Reply, push_reply};
 use lake_types::Listed;
 use line_forms::{is_skipped, session_of, shorn, stmt_of};
 use plain_lake::Kept;

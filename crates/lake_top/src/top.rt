@@ -1,7 +1,7 @@
 ghost use Rattle.std.specs.Prelude.{◌≡◌, ◌≢◌, ◌≤◌, ◌<◌, ◌+◌, ◌-◌, ◌^◌, ◌⊎◌, ◌∷◌, [], ℕ, min, IfErr, IfOk, OnErr, OnOk, Ok, true, false, length, take};
 ghost use Rattle.lake_io.specs.Causes.{Rose};
 ghost use Rattle.lake_io.specs.Told.{Gives, IsAtEnd, Takes};
-ghost use Rattle.lake_model.specs.Cuts.{NoFeed};
+ghost use Rattle.plain_model.specs.Cuts.{NoFeed};
 ghost use Rattle.lake_top.specs.Desk.{new_desk, Answers, Moves};
 ghost use Rattle.lake_top.specs.Run.{Answered, FinishHalts, GivesMore, Halts, Outcome, TurnHalts, UsageOutcome, last_line};
 ghost use Rattle.lake_top.specs.Script.{script_lines};

@@ -1,7 +1,7 @@
 -- One more change of what a session has open.
 use Rattle.std.specs.Prelude.{[], ◌∷◌, ◌++◌, Option, Some, None}
-use Rattle.lake_model.specs.declared.change.Change.{Change}
-use Rattle.lake_model.specs.declared.change.Txn.{Txn}
+use Rattle.plain_model.specs.declared.change.Change.{Change}
+use Rattle.plain_model.specs.declared.change.Txn.{Txn}
 
 abbrev pub appended : Option Txn → Change → Option Txn
 appended None change = None

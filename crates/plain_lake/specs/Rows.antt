@@ -1,6 +1,6 @@
 -- Cells and rows in front of others, where there are any.
 use Rattle.std.specs.Prelude.{List, ◌++◌, Option, Some, None}
-use Rattle.lake_model.specs.Apply.{Cells}
+use Rattle.plain_model.specs.Apply.{Cells}
 use Rattle.lake_types.specs.declared.value.Value.{Value}
 
 abbrev pub with_cells : Cells → Option Cells → Option Cells

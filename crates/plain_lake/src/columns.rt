@@ -1,6 +1,6 @@
 ghost use Rattle.std.specs.Prelude.{◌≡◌, IfOk};
 ghost use Rattle.std.specs.List.{list_all};
-ghost use Rattle.lake_model.specs.Step as spec;
+ghost use Rattle.plain_model.specs.Step as spec;
 
 use lake_types::{ColType, Column, ColumnDef, ColumnList, Copied, Listed, Value};
 use std::alloc::{AllocError, Global};

@@ -1,11 +1,11 @@
 ghost use Rattle.std.specs.Prelude.{◌≡◌, ◌≤◌, ◌<◌, ◌-◌, length, IfOk, IfSome, OnOk, OnErr};
 ghost use Rattle.std.specs.Option.{option_copied, ForSome};
-ghost use Rattle.lake_model.specs.Lake as lakes;
-ghost use Rattle.lake_model.specs.Step as spec;
+ghost use Rattle.plain_model.specs.Lake as lakes;
+ghost use Rattle.plain_model.specs.Step as spec;
 ghost use Rattle.plain_lake.specs.Appended.{appended};
 
 use crate::plans::{creation_plan, insertion_plan, only, selection};
-use lake_model::{Answer, Change, Plan, Reply, State, StateList, Txn, Work, applied, worked};
+use plain_model::{Answer, Change, Plan, Reply, State, StateList, Txn, Work, applied, worked};
 use lake_types::{CellList, ColumnDef, Listed, Stmt, TableName};
 use std::alloc::{AllocError, Global};
 use std::marker::Model;
@@ -19,7 +19,7 @@ pub struct Kept {
 
 impl Model for Kept {
     ghost use Rattle.std.specs.Prelude.{◌≡◌, ◌<◌, length};
-    ghost use Rattle.lake_model.specs.Lake.{Lake};
+    ghost use Rattle.plain_model.specs.Lake.{Lake};
     ghost use Rattle.plain_lake.specs.Kept.{BasesAreKept};
 
     ghost Value = { Lake };

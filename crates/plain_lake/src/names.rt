@@ -1,8 +1,8 @@
 ghost use Rattle.std.specs.Prelude.{◌≡◌};
 ghost use Rattle.std.specs.Option.{option_copied};
-ghost use Rattle.lake_model.specs.Step as spec;
+ghost use Rattle.plain_model.specs.Step as spec;
 
-use lake_model::{Draft, Ref, Work, is_ref};
+use plain_model::{Draft, Ref, Work, is_ref};
 
 /// The schema with a name, as a transaction sees it.
 pub fn schema_named(work: &Work, name: &str) -> Option<Ref>

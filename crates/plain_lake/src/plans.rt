@@ -1,10 +1,10 @@
 ghost use Rattle.std.specs.Prelude.{◌≡◌, IfOk};
-ghost use Rattle.lake_model.specs.Step as spec;
+ghost use Rattle.plain_model.specs.Step as spec;
 
 use crate::columns::{can_create, columns_of};
 use crate::names::{schema_named, table_named};
 use crate::rows::{has_room, shown_rows, taken_rows};
-use lake_model::{Answer, Change, Draft, Plan, Ref, Reply, Table, Work, settled_table};
+use plain_model::{Answer, Change, Draft, Plan, Ref, Reply, Table, Work, settled_table};
 use lake_types::{CellList, ColumnDef, Copied, Listed, TableName, Words};
 use std::alloc::{AllocError, Global};
 

@@ -1,8 +1,8 @@
 ghost use Rattle.std.specs.Prelude.{◌≡◌, ◌-◌, ◌^◌, min, IfOk, map};
-ghost use Rattle.lake_model.specs.Step as spec;
+ghost use Rattle.plain_model.specs.Step as spec;
 
 use crate::columns::is_bigint;
-use lake_model::{Change, Table, WordsList, row_text};
+use plain_model::{Change, Table, WordsList, row_text};
 use lake_types::{Cell, CellList, CellValues, Column, Listed, Value, Words, row_weight};
 use std::alloc::{AllocError, Global};
 

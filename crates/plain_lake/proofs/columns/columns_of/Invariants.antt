@@ -1,5 +1,5 @@
 use Rattle.std.proofs.Common.{◌≡◌, ◌++◌, drop}
-use Rattle.lake_model.specs.Step.{columns_from}
+use Rattle.plain_model.specs.Step.{columns_from}
 use Rattle.plain_lake.proofs.columns.columns_of.Given as goal
 
 -- the columns so far, and those of the rest

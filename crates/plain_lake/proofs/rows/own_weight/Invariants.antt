@@ -1,5 +1,5 @@
 use Rattle.std.proofs.Common.{◌≡◌, ◌-◌, ◌^◌, take, min}
-use Rattle.lake_model.specs.Step.{own_weight}
+use Rattle.plain_model.specs.Step.{own_weight}
 use Rattle.plain_lake.proofs.rows.own_weight.Given as goal
 
 -- the changes so far

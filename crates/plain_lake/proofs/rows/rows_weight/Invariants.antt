@@ -1,5 +1,5 @@
 use Rattle.std.proofs.Common.{◌≡◌, ◌-◌, ◌^◌, take, min}
-use Rattle.lake_model.specs.Step.{rows_weight}
+use Rattle.plain_model.specs.Step.{rows_weight}
 use Rattle.plain_lake.proofs.rows.rows_weight.Given as goal
 
 -- the rows so far

@@ -1,5 +1,5 @@
 use Rattle.std.proofs.Common.{◌≡◌, take, map}
-use Rattle.lake_model.specs.Texts.{row_text}
+use Rattle.plain_model.specs.Texts.{row_text}
 use Rattle.plain_lake.proofs.rows.shown_rows.Given as goal
 
 -- the rows so far

@@ -1,5 +1,5 @@
 use Rattle.std.proofs.Common.{◌≡◌, drop}
-use Rattle.lake_model.specs.Step.{taken_row}
+use Rattle.plain_model.specs.Step.{taken_row}
 use Rattle.plain_lake.specs.Rows.{with_cells}
 use Rattle.plain_lake.proofs.rows.taken_row.Given as goal
 

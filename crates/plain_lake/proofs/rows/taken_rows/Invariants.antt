@@ -1,5 +1,5 @@
 use Rattle.std.proofs.Common.{◌≡◌, drop}
-use Rattle.lake_model.specs.Step.{taken_rows}
+use Rattle.plain_model.specs.Step.{taken_rows}
 use Rattle.plain_lake.specs.Rows.{with_rows}
 use Rattle.plain_lake.proofs.rows.taken_rows.Given as goal
 

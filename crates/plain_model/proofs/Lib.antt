@@ -1,0 +1,5 @@
+pub mod ApplyLemmas
+pub mod CutLemmas
+pub mod ReplayLemmas
+pub mod StepLemmas
+pub mod TextLemmas
