@@ -1,1 +1,6 @@
+pub mod ApplyLemmas
 pub mod ExampleLemmas
+pub mod LayLemmas
+pub mod LineLemmas
+pub mod ReplayLemmas
+pub mod SpareLemmas

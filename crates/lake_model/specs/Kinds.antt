@@ -18,11 +18,11 @@ use Rattle.lake_model.specs.declared.change.RowRef.TheVariants as row_ref
 -- ---- what a list does to one thing
 
 abbrev pub is_drop_of_schema : Ref → Change → Bool
-is_drop_of_schema at (change.DropSchema schema) = is_ref schema at
+is_drop_of_schema at (change.DropSchema schema) = is_ref at schema
 is_drop_of_schema at c = false
 
 abbrev pub is_drop_of_table : Ref → Change → Bool
-is_drop_of_table at (change.DropTable table) = is_ref table at
+is_drop_of_table at (change.DropTable table) = is_ref at table
 is_drop_of_table at c = false
 
 abbrev pub drops_schema : List Change → Ref → Bool

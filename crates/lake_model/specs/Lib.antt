@@ -13,3 +13,5 @@ pub mod Replay
 pub mod Fits
 pub mod History
 pub mod Examples
+pub mod ByTable
+pub mod Laws

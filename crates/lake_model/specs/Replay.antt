@@ -57,8 +57,8 @@ stepped lake session s = record {
 }
 
 abbrev pub said_to : Lake → ℕ → Saying → Said
-said_to lake session IsTooLong = said_only lake (answer_text answer.TooLong)
-said_to lake session (IsWrongAt at) = said_only lake (answer_text (answer.Syntax at))
+said_to lake session IsTooLong = said_only lake (shown (answer_text answer.TooLong))
+said_to lake session (IsWrongAt at) = said_only lake (shown (answer_text (answer.Syntax at)))
 said_to lake session (IsStmt x) = stepped lake session (step lake.core (own_at lake.owns session) session x)
 
 -- a lost line has its text alone and changes nothing

@@ -71,31 +71,44 @@ agrees (value.Bytes bytes) type.Blob = true
 agrees (value.Date day) type.Date = true
 agrees v t = false
 
-abbrev pub compare_fault : List ℕ → Value → Option Column → Option Answer
-compare_fault name literal None = Some (answer.NoColumn name)
-compare_fault name literal (Some c) = refused_if (not (agrees literal c.ty)) (answer.WrongType name)
+-- what is wrong with a test: it names a column that isn't there, or compares one with a literal of another type
+pub data TestFault : Type 0 where
+  LacksColumn : List ℕ → TestFault
+  HasWrongType : List ℕ → TestFault
 
-abbrev pub name_fault : List ℕ → Option Column → Option Answer
-name_fault name None = Some (answer.NoColumn name)
-name_fault name (Some c) = None
+abbrev pub compare_fault : List ℕ → Value → Option Column → Option TestFault
+compare_fault name literal None = Some (LacksColumn name)
+compare_fault name literal (Some c) = if agrees literal c.ty then None else Some (HasWrongType name)
 
-abbrev pub first_fault : List (Option Answer) → Option Answer
-first_fault [] = None
-first_fault (f ∷ faults) = or_else f (first_fault faults)
+abbrev pub column_fault : List ℕ → Option Column → Option TestFault
+column_fault name None = Some (LacksColumn name)
+column_fault name (Some c) = None
+
+abbrev pub first_of : {A : Type 0} → List (Option A) → Option A
+first_of [] = None
+first_of (Some x ∷ more) = Some x
+first_of (None ∷ more) = first_of more
 
 -- one level of a test, with the first fault of each part in its place
-abbrev pub fault_at : List Column → Pred-F (Option Answer) → Option Answer
+abbrev pub fault_at : List Column → Pred-F (Option TestFault) → Option TestFault
 fault_at columns (Pred-F.Compare name op literal) = compare_fault name literal (column_named columns name)
-fault_at columns (Pred-F.IsNull name) = name_fault name (column_named columns name)
-fault_at columns (Pred-F.NotNull name) = name_fault name (column_named columns name)
+fault_at columns (Pred-F.IsNull name) = column_fault name (column_named columns name)
+fault_at columns (Pred-F.NotNull name) = column_fault name (column_named columns name)
 fault_at columns (Pred-F.Not fault) = fault
-fault_at columns (Pred-F.And faults) = first_fault faults
-fault_at columns (Pred-F.Or faults) = first_fault faults
+fault_at columns (Pred-F.And faults) = first_of faults
+fault_at columns (Pred-F.Or faults) = first_of faults
 
 -- the first fault of a test, from the left
+abbrev pub fault_of_test : List Column → Option Pred → Option TestFault
+fault_of_test columns None = None
+fault_of_test columns (Some test) = fold-Pred (Option TestFault) (fault_at columns) test
+
+abbrev pub answer_to : TestFault → Answer
+answer_to (LacksColumn name) = answer.NoColumn name
+answer_to (HasWrongType name) = answer.WrongType name
+
 abbrev pub test_fault : List Column → Option Pred → Option Answer
-test_fault columns None = None
-test_fault columns (Some test) = fold-Pred (Option Answer) (fault_at columns) test
+test_fault columns test = option_map answer_to (fault_of_test columns test)
 
 -- ---- how much a list weighs: the rows that it inserts and the whole new rows of its updates, when they are made
 
@@ -220,8 +233,8 @@ update w table set test =
 
 -- ---- SELECT
 
-abbrev pub item_fault : List Column → Item → Option Answer
-item_fault columns (item.Column name) = name_fault name (column_named columns name)
+abbrev pub item_fault : List Column → Item → Option TestFault
+item_fault columns (item.Column name) = column_fault name (column_named columns name)
 item_fault columns item.RowId = None
 
 abbrev pub value_text : Option Value → List ℕ
@@ -243,4 +256,4 @@ abbrev pub row_text : List Column → List Item → SeenRow → List ℕ
 row_text columns items r = join_with_byte 44 (texts_of columns items r)
 
 abbrev pub select_fault : Draft → List Item → Option Pred → Option Answer
-select_fault d items test = or_else (first_fault (map (item_fault d.columns) items)) (test_fault d.columns test)
+select_fault d items test = or_else (option_map answer_to (first_of (map (item_fault d.columns) items))) (test_fault d.columns test)

@@ -6,6 +6,7 @@ mod answer;
 mod call;
 mod change;
 pub mod examples;
+pub mod laws;
 
 pub use answer::{Answer, Counter, Reply, WordsList};
 pub use call::{Call, CallReply, Entry, Loss, Open, SnapRow, SnapRows};

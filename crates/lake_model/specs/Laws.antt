@@ -1,0 +1,57 @@
+-- What holds of the plain lake.
+use Rattle.std.specs.Prelude.{◌≡◌, ◌≢◌, ℕ, List, Option, Some, None}
+use Rattle.std.specs.List.{AllByRecursion}
+use Rattle.lake_types.specs.Cells.{cell_at, laid_cells}
+use Rattle.lake_types.specs.declared.stmt.Stmt.{Stmt}
+use Rattle.lake_types.specs.declared.value.Column.{Column}
+use Rattle.lake_types.specs.declared.value.Value.{Value}
+use Rattle.lake_model.specs.Apply.{worked}
+use Rattle.lake_model.specs.ByTable.{tables_after}
+use Rattle.lake_model.specs.Core.{Core}
+use Rattle.lake_model.specs.Losses.{LossSort, loss_sort}
+use Rattle.lake_model.specs.Replay.{AreLosses, IsLossText, IsReplay, Lake, Line, LostWhereListed, lost_in, replay_text}
+use Rattle.lake_model.specs.State.{State}
+use Rattle.lake_model.specs.Step.{step}
+use Rattle.lake_model.specs.Texts.{answer_text, shown}
+use Rattle.lake_model.specs.declared.answer.Answer.{Answer}
+use Rattle.lake_model.specs.declared.change.Change.{Change}
+
+-- ---- replays
+
+-- a text that was made with some lost lines shows which they were
+abbrev pub LostLinesAreShown : Type 0
+LostLinesAreShown = (lake : Lake) (lines : List Line) (lost : List (Option (List ℕ))) → AreLosses lines lost → lost_in (replay_text lake lines lost) ≡ lost
+
+-- so it is the text of a replay, where each line is lost where it may be
+abbrev pub TextsAreReplays : Type 0
+TextsAreReplays =
+    (lake : Lake) (lines : List Line) (lost : List (Option (List ℕ))) → AreLosses lines lost → LostWhereListed lake lines lost
+    → IsReplay lake lines (replay_text lake lines lost)
+
+-- the text of each answer that stands for a loss, whatever name is in it
+abbrev pub LossesHaveTexts : Type 0
+LossesHaveTexts = (a : Answer) (s : LossSort) → loss_sort a ≡ Some s → IsLossText (Some (shown (answer_text a)))
+
+-- and no statement of the plain lake answers one
+abbrev pub StepsLoseNothing : Type 0
+StepsLoseNothing = (core : Core) (own : List Change) (session : ℕ) (x : Stmt) (s : LossSort) → loss_sort (step core own session x).reply.last ≡ Some s → ⊥
+
+-- ---- apply, table by table
+
+abbrev pub GoesByTable : Type 0
+GoesByTable = (s : State) (own : List Change) → (worked s own).tables ≡ tables_after s own
+
+-- ---- rows that are laid twice
+
+-- A later column of a table, and a row that was laid into the table's columns before: where the column was there, it had
+-- the same initial default, and where it wasn't, the row has no cell for it, since no field id is given twice.
+pub record IsLater (before : List Column) (cells : List (ℕ × Value)) (d : Column) : Type 0 where
+  pub same : AllByRecursion (λ (c : Column). c.field ≡ d.field → c.initial ≡ d.initial) before
+  pub new : AllByRecursion (λ (c : Column). c.field ≢ d.field) before → cell_at cells d.field ≡ None
+
+-- Laid into a table's columns and then into its later ones, a row is laid into the later ones: what was dropped goes, and
+-- what was added reads as its default.
+abbrev pub LaysOnce : Type 0
+LaysOnce =
+    (before later : List Column) (cells : List (ℕ × Value)) → AllByRecursion (IsLater before cells) later
+    → laid_cells later (laid_cells before cells) ≡ laid_cells later cells

@@ -1,0 +1,23 @@
+//! What holds of the plain lake. Each function's contract is a law, and its body is empty.
+
+ghost use Rattle.lake_model.specs.Laws.{GoesByTable, LaysOnce, LossesHaveTexts, LostLinesAreShown, StepsLoseNothing, TextsAreReplays};
+
+/// The text of a replay shows which of its lines were lost, so that nothing of it is chosen.
+pub fn lost_lines_are_shown()
+    ensures shown { LostLinesAreShown }
+    ensures replays { TextsAreReplays }
+    ensures texts { LossesHaveTexts }
+    ensures apart { StepsLoseNothing }
+{}
+
+/// What a list does to one table depends on the list and on that table alone: after it stand the old tables that it doesn't
+/// drop, each changed by itself, and then those that it makes.
+pub fn apply_goes_by_table()
+    ensures { GoesByTable }
+{}
+
+/// A row that was laid into a table's columns is laid into later ones as it was before: a dropped column's cell goes, and
+/// an added column reads as its initial default.
+pub fn rows_are_laid_once()
+    ensures { LaysOnce }
+{}
