@@ -1,6 +1,6 @@
 //! A script of INSERT lines.
 
-use line_tokens::cut_of;
+use stmt_tokens::cut_of;
 use std::alloc::{AllocError, Global};
 use stmt_text::read_line;
 
