@@ -1,8 +1,8 @@
 -- The day that a text names is the one with this text.
-use Rattle.std.proofs.Common.{◌≡◌, ◌≢◌, ℕ, zero, suc, ◌+◌, ◌≤◌, ◌<◌, ℤ, pos, neg_ℤ, ◌+ℤ◌, unsigned_abs, int_le, Bool, true, false, cond, List, Option, Some, None, inl, inr, refl, sym, ap, ◌∙◌, arith}
+use Rattle.std.proofs.Common.{◌≡◌, ◌≢◌, ℕ, zero, suc, ◌≤◌, ◌<◌, ℤ, pos, neg_ℤ, ◌+ℤ◌, unsigned_abs, int_le, Bool, true, false, cond, List, Some, None, inl, inr, refl, sym, ap, ◌∙◌, arith}
 use Rattle.std.specs.Prelude.{option_map}
 use Rattle.std.specs.Str.{bytes_eq}
-use Rattle.std.proofs.lemmas.Bool.{and_parts, cases_Bool, cases_lt}
+use Rattle.std.proofs.lemmas.Bool.{and_parts, cases_lt}
 use Rattle.std.proofs.lemmas.Int.{ints}
 use Rattle.std.proofs.lemmas.Slice.Eq.{bytes_eq-Decides}
 use Rattle.lake_types.specs.declared.value.ColType.TheVariants as ty
@@ -14,7 +14,7 @@ use Rattle.lake_types.proofs.ValueLemmas.{one_value}
 use Rattle.stmt_reader.specs.Dates.{day_number, day_among, date_of}
 use Rattle.stmt_reader.specs.Rules.{day_of}
 
-in_calendar : (i : ℕ) → i < 3652059 → is_day (day_number i) ≡ true
+pub in_calendar : (i : ℕ) → i < 3652059 → is_day (day_number i) ≡ true
 in_calendar i h = grind (arith, ints)
 
 place_of : (d : ℤ) → is_day d ≡ true → (i : ℕ) × (i < 3652059) × (day_number i ≡ d)

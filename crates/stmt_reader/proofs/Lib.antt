@@ -1,3 +1,4 @@
+pub mod AnswerLemmas
 pub mod DateLemmas
 pub mod LineAnswer
 pub mod PlaceLemmas

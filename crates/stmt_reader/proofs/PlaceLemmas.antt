@@ -1,12 +1,12 @@
 -- What is said has no fault, and there is one fault at most.
-use Rattle.std.proofs.Common.{◌≡◌, ℕ, suc, ◌+◌, ◌≤◌, ◌<◌, min, List, [], ◌∷◌, ◌++◌, length, take, drop, inl, inr, refl, ap, sym, ◌∙◌, subst, arith, append_assoc, take-take}
+use Rattle.std.proofs.Common.{◌≡◌, ℕ, ◌+◌, ◌≤◌, ◌<◌, List, ◌++◌, length, take, drop, inl, inr, ap, sym, ◌∙◌, subst, arith, append_assoc, take-take}
 use Rattle.std.proofs.lemmas.Bool.{cases_lt}
 use Rattle.std.proofs.lemmas.List.{take-append-drop}
-use Rattle.line_tokens.specs.Tokens.{tokens_of}
-use Rattle.line_tokens.specs.declared.token.Token.{Token}
-use Rattle.token_grammar.specs.Grammar.{Grammar, Spells}
-use Rattle.token_grammar.specs.Places.{Begins, IsWrongAt}
-use Rattle.token_grammar.proofs.Lines.{one_value}
+use Rattle.stmt_tokens.specs.Tokens.{tokens_of}
+use Rattle.stmt_tokens.specs.declared.token.Token.{Token}
+use Rattle.stmt_grammar.specs.Grammar.{Grammar, Spells}
+use Rattle.stmt_grammar.specs.Places.{Begins, IsWrongAt}
+use Rattle.stmt_grammar.proofs.Lines.{one_value}
 use Rattle.stmt_reader.proofs.LineAnswer.{sound_line}
 use Rattle.stmt_reader.specs.Laws.{SaysOneThing, SaysOrFails, HasOnePlace}
 use Rattle.stmt_reader.specs.Lines.{place}

@@ -1,20 +1,22 @@
 -- The grammar is one that a token of lookahead decides.
-use Rattle.std.proofs.Common.{◌≡◌, ℕ, zero, suc, Bool, true, false, not, ◌&&◌, ◌||◌, List, [], ◌∷◌, refl, sym, ap, ◌∙◌, subst, Option, Some, None}
+use Rattle.std.proofs.Common.{◌≡◌, ℕ, zero, suc, Bool, true, false, ◌&&◌, ◌||◌, List, [], ◌∷◌, refl, ap, ◌∙◌, Some}
 use Rattle.std.specs.Prelude.{codes, pos, neg_ℤ, option_map}
-use Rattle.line_tokens.proofs.AsciiLemmas.{ascii_text}
-use Rattle.line_tokens.specs.Tokens.{keyword}
-use Rattle.line_tokens.specs.declared.token.Kind.{Kind}
-use Rattle.line_tokens.specs.declared.token.Kind.TheVariants as k
-use Rattle.line_tokens.specs.declared.token.Token.{Token}
+use Rattle.std.proofs.lemmas.Bool.{and_left}
+use Rattle.stmt_tokens.proofs.AsciiLemmas.{ascii_text}
+use Rattle.stmt_tokens.specs.Tokens.{keyword}
+use Rattle.stmt_tokens.specs.declared.token.Kind.{Kind}
+use Rattle.stmt_tokens.specs.declared.token.Keyword.TheVariants as words
+use Rattle.stmt_tokens.specs.declared.token.Kind.TheVariants as k
+use Rattle.stmt_tokens.specs.declared.token.Sign.TheVariants as signs
+use Rattle.stmt_tokens.specs.declared.token.Token.{Token}
 use Rattle.lake_types.specs.declared.value.ColType.TheVariants as ty
 use Rattle.lake_types.specs.declared.value.Value.TheVariants as value
 use Rattle.lake_types.specs.declared.pred.Op.TheVariants as op
 use Rattle.lake_types.specs.declared.pred.Pred.{Pred}
-use Rattle.token_grammar.specs.Grammar.{Grammar, first, empty}
-use Rattle.token_grammar.specs.Phrases.{is, word}
-use Rattle.token_grammar.proofs.Known.{Apart}
-use Rattle.token_grammar.proofs.Samples.{sound_word}
-use Rattle.token_grammar.proofs.Sound.{Sound, after}
+use Rattle.stmt_grammar.specs.Grammar.{Grammar, empty}
+use Rattle.stmt_grammar.specs.Phrases.{is}
+use Rattle.stmt_grammar.proofs.Samples.{sound_mark, sound_word}
+use Rattle.stmt_grammar.proofs.Sound.{Sound, after}
 use Rattle.lake_types.specs.Calendar.{day_text, date_after}
 use Rattle.stmt_reader.specs.Dates.{date_of}
 use Rattle.stmt_reader.proofs.DateLemmas.{day_found}
@@ -29,15 +31,15 @@ sound_name = (with_text k.Word (codes "a"), (codes "a", rw (ascii_text (codes "a
 
 pub sound_table : Sound table
 unfolding table name is
-sound_table = (sound_name, ((sound_word k.Dot, sound_name, λ a. refl), refl, refl), λ a. refl)
+sound_table = (sound_name, ((sound_mark signs.Dot, sound_name, λ a. refl), refl, refl), λ a. refl)
 
 pub sound_type : Sound column_type
 unfolding column_type keyword
-sound_type = (with_text k.Boolean (codes "BOOLEAN"), (codes "BOOLEAN", rw (ascii_text (codes "BOOLEAN") refl) refl), ty.Bool, refl, refl)
+sound_type = (with_text (k.Keyword words.Boolean) (codes "BOOLEAN"), (codes "BOOLEAN", rw (ascii_text (codes "BOOLEAN") refl) refl), ty.Bool, refl, refl)
 
 sound_constant : Sound constant
 unfolding keyword
-sound_constant = (with_text k.Null (codes "NULL"), (codes "NULL", rw (ascii_text (codes "NULL") refl) refl), value.Null, refl, refl)
+sound_constant = (with_text (k.Keyword words.Null) (codes "NULL"), (codes "NULL", rw (ascii_text (codes "NULL") refl) refl), value.Null, refl, refl)
 
 sound_number : Sound number
 unfolding is
@@ -77,21 +79,21 @@ sound_literal = (
     (
       sound_bytes,
       (
-        (sound_word k.Date, sound_day, λ a. refl),
+        (sound_word words.Date, sound_day, λ a. refl),
         sound_constant,
-        elim [ k.And ↦ refl | _ ↦ refl ],
+        elim [ k.Keyword words.And ↦ refl | k.Sign signs.Comma ↦ refl | _ ↦ refl ],
         refl,
         refl,
       ),
-      elim [ k.And ↦ refl | _ ↦ refl ],
+      elim [ k.Keyword words.And ↦ refl | k.Sign signs.Comma ↦ refl | _ ↦ refl ],
       refl,
       refl,
     ),
-    elim [ k.And ↦ refl | _ ↦ refl ],
+    elim [ k.Keyword words.And ↦ refl | k.Sign signs.Comma ↦ refl | _ ↦ refl ],
     refl,
     refl,
   ),
-  elim [ k.And ↦ refl | _ ↦ refl ],
+  elim [ k.Keyword words.And ↦ refl | k.Sign signs.Comma ↦ refl | _ ↦ refl ],
   refl,
   refl,
 )
@@ -103,9 +105,9 @@ sound_column = (
   (
     sound_type,
     (
-      ((sound_word k.Not, sound_word k.Null, λ a. refl), refl, refl),
-      ((sound_word k.Default, sound_literal, λ a. refl), refl, refl),
-      elim [ k.And ↦ refl | _ ↦ refl ],
+      ((sound_word words.Not, sound_word words.Null, λ a. refl), refl, refl),
+      ((sound_word words.Default, sound_literal, λ a. refl), refl, refl),
+      elim [ k.Keyword words.And ↦ refl | k.Sign signs.Comma ↦ refl | _ ↦ refl ],
     ),
     λ a. refl,
   ),
@@ -115,34 +117,34 @@ sound_column = (
 pub sound_columns : Sound columns
 unfolding columns column name column_type nulls default_value literal is
 sound_columns = (
-  sound_word k.LeftParen,
+  sound_mark signs.LeftParen,
   (
-    (sound_column, (((sound_word k.Comma, sound_column, λ a. refl), refl, refl, elim [ k.And ↦ refl | _ ↦ refl ])), elim [ k.And ↦ refl | _ ↦ refl ]),
-    sound_word k.RightParen,
-    elim [ k.And ↦ refl | _ ↦ refl ],
+    (sound_column, (((sound_mark signs.Comma, sound_column, λ a. refl), refl, refl, elim [ k.Keyword words.And ↦ refl | k.Sign signs.Comma ↦ refl | _ ↦ refl ])), elim [ k.Keyword words.And ↦ refl | k.Sign signs.Comma ↦ refl | _ ↦ refl ]),
+    sound_mark signs.RightParen,
+    elim [ k.Keyword words.And ↦ refl | k.Sign signs.Comma ↦ refl | _ ↦ refl ],
   ),
   λ a. refl,
 )
 
 pub sound_cell : Sound cell
 unfolding cell literal is
-sound_cell = (sound_word k.Default, sound_literal, elim [ k.And ↦ refl | _ ↦ refl ], refl, refl)
+sound_cell = (sound_word words.Default, sound_literal, elim [ k.Keyword words.And ↦ refl | k.Sign signs.Comma ↦ refl | _ ↦ refl ], refl, refl)
 
 pub sound_row : Sound row
 unfolding row cell literal is
 sound_row = (
-  sound_word k.LeftParen,
+  sound_mark signs.LeftParen,
   (
-    (sound_cell, (((sound_word k.Comma, sound_cell, λ a. refl), refl, refl, elim [ k.And ↦ refl | _ ↦ refl ])), elim [ k.And ↦ refl | _ ↦ refl ]),
-    sound_word k.RightParen,
-    elim [ k.And ↦ refl | _ ↦ refl ],
+    (sound_cell, (((sound_mark signs.Comma, sound_cell, λ a. refl), refl, refl, elim [ k.Keyword words.And ↦ refl | k.Sign signs.Comma ↦ refl | _ ↦ refl ])), elim [ k.Keyword words.And ↦ refl | k.Sign signs.Comma ↦ refl | _ ↦ refl ]),
+    sound_mark signs.RightParen,
+    elim [ k.Keyword words.And ↦ refl | k.Sign signs.Comma ↦ refl | _ ↦ refl ],
   ),
   λ a. refl,
 )
 
 sound_operator : Sound operator
 unfolding operator
-sound_operator = (with_text k.Eq [], (codes "=", refl), op.Eq, refl, refl)
+sound_operator = (with_text (k.Sign signs.Eq) [], (codes "=", refl), op.Eq, refl, refl)
 
 pub sound_comparison : Sound comparison
 unfolding comparison operator literal is
@@ -150,11 +152,11 @@ sound_comparison = (sound_operator, sound_literal, λ a. refl)
 
 pub sound_nullness : Sound nullness
 unfolding nullness is
-sound_nullness = (sound_word k.Is, (((sound_word k.Not, refl, refl), sound_word k.Null, elim [ k.And ↦ refl | _ ↦ refl ])), λ a. refl)
+sound_nullness = (sound_word words.Is, (((sound_word words.Not, refl, refl), sound_word words.Null, elim [ k.Keyword words.And ↦ refl | k.Sign signs.Comma ↦ refl | _ ↦ refl ])), λ a. refl)
 
 pub sound_test : Sound simple_test
 unfolding simple_test name comparison operator nullness literal is
-sound_test = (sound_name, (sound_nullness, sound_comparison, elim [ k.And ↦ refl | _ ↦ refl ], refl, refl), λ a. refl)
+sound_test = (sound_name, (sound_nullness, sound_comparison, elim [ k.Keyword words.And ↦ refl | k.Sign signs.Comma ↦ refl | _ ↦ refl ], refl, refl), λ a. refl)
 
 -- ---- chains
 
@@ -179,50 +181,46 @@ twice false true e h = refl
 twice false false true h = refl
 twice false false false h = refl
 
-and_false : (a b : Bool) → a ≡ false → (a && b) ≡ false
-and_false false b h = refl
-and_false true b h = cc
-
 module _ (u : Grammar Pred) (s : Sound u) (e : empty u ≡ false) (f : (a : Kind) → after u a ≡ false) where
   empty_ands : empty (ands u) ≡ false
   unfolding ands
-  empty_ands = and_false (empty u) true e
+  empty_ands = and_left (empty u) true e
 
   sound_ands : Sound (ands u)
   unfolding ands is
   sound_ands = (
     s,
-    ((sound_word k.And, s, λ a. refl), refl, refl, λ a. apart_by (after u a) false (empty u) (is k.And a) (f a) e refl),
-    λ a. and_false (after u a) (is k.And a) (f a),
+    ((sound_word words.And, s, λ a. refl), refl, refl, λ a. apart_by (after u a) false (empty u) (is (k.Keyword words.And) a) (f a) e refl),
+    λ a. and_left (after u a) (is (k.Keyword words.And) a) (f a),
   )
 
-  after_ands : (a : Kind) → after (ands u) a ≡ is k.And a
+  after_ands : (a : Kind) → after (ands u) a ≡ is (k.Keyword words.And) a
   unfolding ands
-  after_ands a = chain_end (is k.And a) false (after u a) (empty u) (f a) e
+  after_ands a = chain_end (is (k.Keyword words.And) a) false (after u a) (empty u) (f a) e
 
   pub empty_ors : empty (ors u) ≡ false
   unfolding ors ands
-  empty_ors = and_false (empty u && true) true (and_false (empty u) true e)
+  empty_ors = and_left (empty u && true) true (and_left (empty u) true e)
 
   pub sound_ors : Sound (ors u)
   unfolding ors is
   sound_ors = (
     sound_ands,
     (
-      (sound_word k.Or, sound_ands, λ a. refl),
+      (sound_word words.Or, sound_ands, λ a. refl),
       refl,
       refl,
-      λ a. apart_by (after (ands u) a) (is k.And a) (empty (ands u)) (is k.Or a) (after_ands a) empty_ands (and_or a),
+      λ a. apart_by (after (ands u) a) (is (k.Keyword words.And) a) (empty (ands u)) (is (k.Keyword words.Or) a) (after_ands a) empty_ands (and_or a),
     ),
-    λ a. ap (λ (i : Bool). i && (is k.Or a)) (after_ands a) ∙ and_or a,
+    λ a. ap (λ (i : Bool). i && (is (k.Keyword words.Or) a)) (after_ands a) ∙ and_or a,
   )
     where
-      and_or : (a : Kind) → (is k.And a && (is k.Or a)) ≡ false
-      and_or = elim [ k.And ↦ refl | _ ↦ refl ]
+      and_or : (a : Kind) → (is (k.Keyword words.And) a && (is (k.Keyword words.Or) a)) ≡ false
+      and_or = elim [ k.Keyword words.And ↦ refl | k.Sign signs.Comma ↦ refl | _ ↦ refl ]
 
-  pub after_ors : (a : Kind) → after (ors u) a ≡ (is k.Or a || is k.And a)
+  pub after_ors : (a : Kind) → after (ors u) a ≡ (is (k.Keyword words.Or) a || is (k.Keyword words.And) a)
   unfolding ors
-  after_ors a = twice (is k.Or a) (after (ands u) a) (empty (ands u)) empty_ands ∙ ap (λ (i : Bool). is k.Or a || i) (after_ands a)
+  after_ors a = twice (is (k.Keyword words.Or) a) (after (ands u) a) (empty (ands u)) empty_ands ∙ ap (λ (i : Bool). is (k.Keyword words.Or) a || i) (after_ands a)
 
 all_false : (x e c : Bool) → x ≡ false → e ≡ false → ((x || (e && false)) || (((c && false) && false) || false)) ≡ false
 all_false false false true h l = refl
@@ -242,23 +240,23 @@ unary_ends (suc n) =
     let h = unary_ends n in
     record {
       sound = (
-        (sound_word k.Not, h.sound, λ a. refl),
+        (sound_word words.Not, h.sound, λ a. refl),
         (
           (
-            sound_word k.LeftParen,
+            sound_mark signs.LeftParen,
             (
               sound_ors (unary n) h.sound h.full h.ends,
-              sound_word k.RightParen,
-              λ a. ap (λ (i : Bool). i && is k.RightParen a) (after_ors (unary n) h.sound h.full h.ends a) ∙ close a,
+              sound_mark signs.RightParen,
+              λ a. ap (λ (i : Bool). i && is (k.Sign signs.RightParen) a) (after_ors (unary n) h.sound h.full h.ends a) ∙ close a,
             ),
             λ a. refl,
           ),
           sound_test,
-          elim [ k.And ↦ refl | _ ↦ refl ],
+          elim [ k.Keyword words.And ↦ refl | k.Sign signs.Comma ↦ refl | _ ↦ refl ],
           refl,
           refl,
         ),
-        elim [ k.And ↦ refl | _ ↦ refl ],
+        elim [ k.Keyword words.And ↦ refl | k.Sign signs.Comma ↦ refl | _ ↦ refl ],
         refl,
         refl,
       );
@@ -266,14 +264,14 @@ unary_ends (suc n) =
       ends = λ a. all_false (after (unary n) a) (empty (unary n)) (empty (ors (unary n))) (h.ends a) h.full;
     }
   where
-    close : (a : Kind) → ((is k.Or a || is k.And a) && is k.RightParen a) ≡ false
-    close = elim [ k.And ↦ refl | _ ↦ refl ]
+    close : (a : Kind) → ((is (k.Keyword words.Or) a || is (k.Keyword words.And) a) && is (k.Sign signs.RightParen) a) ≡ false
+    close = elim [ k.Keyword words.And ↦ refl | k.Sign signs.Comma ↦ refl | _ ↦ refl ]
 
 pub sound_condition : Sound condition
 unfolding condition
 sound_condition = let h = unary_ends 64 in sound_ors (unary 64) h.sound h.full h.ends
 
-pub after_condition : (a : Kind) → after condition a ≡ (is k.Or a || is k.And a)
+pub after_condition : (a : Kind) → after condition a ≡ (is (k.Keyword words.Or) a || is (k.Keyword words.And) a)
 unfolding condition
 after_condition a = let h = unary_ends 64 in after_ors (unary 64) h.sound h.full h.ends a
 
@@ -283,18 +281,18 @@ empty_condition = let h = unary_ends 64 in empty_ors (unary 64) h.sound h.full h
 
 pub sound_where : Sound where_
 unfolding where_ is
-sound_where = ((sound_word k.Where, sound_condition, λ a. refl), refl, refl)
+sound_where = ((sound_word words.Where, sound_condition, λ a. refl), refl, refl)
 
 pub sound_item : Sound item
 unfolding item name is
-sound_item = (sound_word k.RowId, sound_name, elim [ k.And ↦ refl | _ ↦ refl ], refl, refl)
+sound_item = (sound_word words.RowId, sound_name, elim [ k.Keyword words.And ↦ refl | k.Sign signs.Comma ↦ refl | _ ↦ refl ], refl, refl)
 
 pub sound_shown : Sound shown
 unfolding shown item name is
 sound_shown = (
-  sound_word k.Star,
-  (sound_item, ((sound_word k.Comma, sound_item, λ a. refl), refl, refl, elim [ k.And ↦ refl | _ ↦ refl ]), elim [ k.And ↦ refl | _ ↦ refl ]),
-  elim [ k.And ↦ refl | _ ↦ refl ],
+  sound_mark signs.Star,
+  (sound_item, ((sound_mark signs.Comma, sound_item, λ a. refl), refl, refl, elim [ k.Keyword words.And ↦ refl | k.Sign signs.Comma ↦ refl | _ ↦ refl ]), elim [ k.Keyword words.And ↦ refl | k.Sign signs.Comma ↦ refl | _ ↦ refl ]),
+  elim [ k.Keyword words.And ↦ refl | k.Sign signs.Comma ↦ refl | _ ↦ refl ],
   refl,
   refl,
 )
@@ -302,9 +300,9 @@ sound_shown = (
 sound_create : Sound create
 unfolding create name table columns is
 sound_create = (
-  (sound_word k.Schema, sound_name, λ a. refl),
-  (sound_word k.Table, (sound_table, sound_columns, elim [ k.And ↦ refl | _ ↦ refl ]), λ a. refl),
-  elim [ k.And ↦ refl | _ ↦ refl ],
+  (sound_word words.Schema, sound_name, λ a. refl),
+  (sound_word words.Table, (sound_table, sound_columns, elim [ k.Keyword words.And ↦ refl | k.Sign signs.Comma ↦ refl | _ ↦ refl ]), λ a. refl),
+  elim [ k.Keyword words.And ↦ refl | k.Sign signs.Comma ↦ refl | _ ↦ refl ],
   refl,
   refl,
 )
@@ -312,19 +310,19 @@ sound_create = (
 sound_remove : Sound remove
 unfolding remove is
 sound_remove =
-    ((sound_word k.Schema, sound_name, λ a. refl), (sound_word k.Table, sound_table, λ a. refl), elim [ k.And ↦ refl | _ ↦ refl ], refl, refl)
+    ((sound_word words.Schema, sound_name, λ a. refl), (sound_word words.Table, sound_table, λ a. refl), elim [ k.Keyword words.And ↦ refl | k.Sign signs.Comma ↦ refl | _ ↦ refl ], refl, refl)
 
 sound_rename : Sound rename
 unfolding rename name is
 sound_rename =
-    (sound_word k.Rename, (sound_word k.Column, (sound_name, (sound_word k.To, sound_name, λ a. refl), λ a. refl), λ a. refl), λ a. refl)
+    (sound_word words.Rename, (sound_word words.Column, (sound_name, (sound_word words.To, sound_name, λ a. refl), λ a. refl), λ a. refl), λ a. refl)
 
 sound_setting : Sound setting
 unfolding setting is
 sound_setting = (
-  (sound_word k.Data, (sound_word k.Type, sound_type, λ a. refl), λ a. refl),
-  (sound_word k.Default, sound_literal, λ a. refl),
-  elim [ k.And ↦ refl | _ ↦ refl ],
+  (sound_word words.Data, (sound_word words.Type, sound_type, λ a. refl), λ a. refl),
+  (sound_word words.Default, sound_literal, λ a. refl),
+  elim [ k.Keyword words.And ↦ refl | k.Sign signs.Comma ↦ refl | _ ↦ refl ],
   refl,
   refl,
 )
@@ -332,34 +330,34 @@ sound_setting = (
 sound_set_column : Sound set_column
 unfolding set_column name is
 sound_set_column =
-    (sound_word k.Alter, (sound_word k.Column, (sound_name, (sound_word k.Set, sound_setting, λ a. refl), λ a. refl), λ a. refl), λ a. refl)
+    (sound_word words.Alter, (sound_word words.Column, (sound_name, (sound_word words.Set, sound_setting, λ a. refl), λ a. refl), λ a. refl), λ a. refl)
 
 sound_change : Sound change
 unfolding change rename set_column is
 sound_change = (
-  (sound_word k.Add, (sound_word k.Column, sound_column, λ a. refl), λ a. refl),
+  (sound_word words.Add, (sound_word words.Column, sound_column, λ a. refl), λ a. refl),
   (
-    (sound_word k.Drop, (sound_word k.Column, sound_name, λ a. refl), λ a. refl),
-    (sound_rename, sound_set_column, elim [ k.And ↦ refl | _ ↦ refl ], refl, refl),
-    elim [ k.And ↦ refl | _ ↦ refl ],
+    (sound_word words.Drop, (sound_word words.Column, sound_name, λ a. refl), λ a. refl),
+    (sound_rename, sound_set_column, elim [ k.Keyword words.And ↦ refl | k.Sign signs.Comma ↦ refl | _ ↦ refl ], refl, refl),
+    elim [ k.Keyword words.And ↦ refl | k.Sign signs.Comma ↦ refl | _ ↦ refl ],
     refl,
     refl,
   ),
-  elim [ k.And ↦ refl | _ ↦ refl ],
+  elim [ k.Keyword words.And ↦ refl | k.Sign signs.Comma ↦ refl | _ ↦ refl ],
   refl,
   refl,
 )
 
 sound_alter : Sound alter
 unfolding alter table name change rename set_column is
-sound_alter = (sound_word k.Table, (sound_table, sound_change, elim [ k.And ↦ refl | _ ↦ refl ]), λ a. refl)
+sound_alter = (sound_word words.Table, (sound_table, sound_change, elim [ k.Keyword words.And ↦ refl | k.Sign signs.Comma ↦ refl | _ ↦ refl ]), λ a. refl)
 
 sound_definition : Sound definition
 unfolding definition is
 sound_definition = (
-  (sound_word k.Create, sound_create, λ a. refl),
-  ((sound_word k.Drop, sound_remove, λ a. refl), (sound_word k.Alter, sound_alter, λ a. refl), elim [ k.And ↦ refl | _ ↦ refl ], refl, refl),
-  elim [ k.And ↦ refl | _ ↦ refl ],
+  (sound_word words.Create, sound_create, λ a. refl),
+  ((sound_word words.Drop, sound_remove, λ a. refl), (sound_word words.Alter, sound_alter, λ a. refl), elim [ k.Keyword words.And ↦ refl | k.Sign signs.Comma ↦ refl | _ ↦ refl ], refl, refl),
+  elim [ k.Keyword words.And ↦ refl | k.Sign signs.Comma ↦ refl | _ ↦ refl ],
   refl,
   refl,
 )
@@ -367,60 +365,60 @@ sound_definition = (
 sound_insert : Sound insert
 unfolding insert table row name is cell literal
 sound_insert = (
-  sound_word k.Into,
+  sound_word words.Into,
   (
     sound_table,
     (
-      sound_word k.Values,
-      (sound_row, ((sound_word k.Comma, sound_row, λ a. refl), refl, refl, elim [ k.And ↦ refl | _ ↦ refl ]), elim [ k.And ↦ refl | _ ↦ refl ]),
+      sound_word words.Values,
+      (sound_row, ((sound_mark signs.Comma, sound_row, λ a. refl), refl, refl, elim [ k.Keyword words.And ↦ refl | k.Sign signs.Comma ↦ refl | _ ↦ refl ]), elim [ k.Keyword words.And ↦ refl | k.Sign signs.Comma ↦ refl | _ ↦ refl ]),
       λ a. refl,
     ),
-    elim [ k.And ↦ refl | _ ↦ refl ],
+    elim [ k.Keyword words.And ↦ refl | k.Sign signs.Comma ↦ refl | _ ↦ refl ],
   ),
   λ a. refl,
 )
 
 sound_delete : Sound delete
 unfolding delete table where_ name is
-sound_delete = (sound_word k.From, (sound_table, sound_where, elim [ k.And ↦ refl | _ ↦ refl ]), λ a. refl)
+sound_delete = (sound_word words.From, (sound_table, sound_where, elim [ k.Keyword words.And ↦ refl | k.Sign signs.Comma ↦ refl | _ ↦ refl ]), λ a. refl)
 
 sound_assignment : Sound assignment
 unfolding assignment name is
-sound_assignment = (sound_name, (sound_word k.Eq, sound_literal, λ a. refl), λ a. refl)
+sound_assignment = (sound_name, (sound_mark signs.Eq, sound_literal, λ a. refl), λ a. refl)
 
 sound_update : Sound update
 unfolding update table assignment where_ literal name is
 sound_update = (
   sound_table,
   (
-    sound_word k.Set,
+    sound_word words.Set,
     (
-      (sound_assignment, ((sound_word k.Comma, sound_assignment, λ a. refl), refl, refl, elim [ k.And ↦ refl | _ ↦ refl ]), elim [ k.And ↦ refl | _ ↦ refl ]),
+      (sound_assignment, ((sound_mark signs.Comma, sound_assignment, λ a. refl), refl, refl, elim [ k.Keyword words.And ↦ refl | k.Sign signs.Comma ↦ refl | _ ↦ refl ]), elim [ k.Keyword words.And ↦ refl | k.Sign signs.Comma ↦ refl | _ ↦ refl ]),
       sound_where,
-      elim [ k.And ↦ refl | _ ↦ refl ],
+      elim [ k.Keyword words.And ↦ refl | k.Sign signs.Comma ↦ refl | _ ↦ refl ],
     ),
     λ a. refl,
   ),
-  elim [ k.And ↦ refl | _ ↦ refl ],
+  elim [ k.Keyword words.And ↦ refl | k.Sign signs.Comma ↦ refl | _ ↦ refl ],
 )
 
 sound_select : Sound select
 unfolding select shown item table where_ name is
 sound_select =
-    (sound_shown, (sound_word k.From, (sound_table, sound_where, elim [ k.And ↦ refl | _ ↦ refl ]), λ a. refl), elim [ k.And ↦ refl | _ ↦ refl ])
+    (sound_shown, (sound_word words.From, (sound_table, sound_where, elim [ k.Keyword words.And ↦ refl | k.Sign signs.Comma ↦ refl | _ ↦ refl ]), λ a. refl), elim [ k.Keyword words.And ↦ refl | k.Sign signs.Comma ↦ refl | _ ↦ refl ])
 
 sound_rows : Sound rows
 unfolding rows is
 sound_rows = (
-  (sound_word k.Insert, sound_insert, λ a. refl),
+  (sound_word words.Insert, sound_insert, λ a. refl),
   (
-    (sound_word k.Delete, sound_delete, λ a. refl),
-    ((sound_word k.Update, sound_update, λ a. refl), (sound_word k.Select, sound_select, λ a. refl), elim [ k.And ↦ refl | _ ↦ refl ], refl, refl),
-    elim [ k.And ↦ refl | _ ↦ refl ],
+    (sound_word words.Delete, sound_delete, λ a. refl),
+    ((sound_word words.Update, sound_update, λ a. refl), (sound_word words.Select, sound_select, λ a. refl), elim [ k.Keyword words.And ↦ refl | k.Sign signs.Comma ↦ refl | _ ↦ refl ], refl, refl),
+    elim [ k.Keyword words.And ↦ refl | k.Sign signs.Comma ↦ refl | _ ↦ refl ],
     refl,
     refl,
   ),
-  elim [ k.And ↦ refl | _ ↦ refl ],
+  elim [ k.Keyword words.And ↦ refl | k.Sign signs.Comma ↦ refl | _ ↦ refl ],
   refl,
   refl,
 )
@@ -432,14 +430,14 @@ sound_count = (with_text k.Number (codes "1"), (codes "1", rw (ascii_text (codes
 sound_begin : Sound begin
 unfolding begin begin_at is
 sound_begin =
-    ((sound_word k.At, (sound_word k.LeftParen, ((sound_word k.Version, (sound_word k.Arrow, sound_count, λ a. refl), λ a. refl), sound_word k.RightParen, λ a. refl), λ a. refl), λ a. refl), refl, refl)
+    ((sound_word words.At, (sound_mark signs.LeftParen, ((sound_word words.Version, (sound_mark signs.Arrow, sound_count, λ a. refl), λ a. refl), sound_mark signs.RightParen, λ a. refl), λ a. refl), λ a. refl), refl, refl)
 
 sound_transaction : Sound transaction
 unfolding transaction begin begin_at is
 sound_transaction = (
-  (sound_word k.Begin, sound_begin, λ a. refl),
-  (sound_word k.Commit, sound_word k.Rollback, elim [ k.And ↦ refl | _ ↦ refl ], refl, refl),
-  elim [ k.And ↦ refl | _ ↦ refl ],
+  (sound_word words.Begin, sound_begin, λ a. refl),
+  (sound_word words.Commit, sound_word words.Rollback, elim [ k.Keyword words.And ↦ refl | k.Sign signs.Comma ↦ refl | _ ↦ refl ], refl, refl),
+  elim [ k.Keyword words.And ↦ refl | k.Sign signs.Comma ↦ refl | _ ↦ refl ],
   refl,
   refl,
 )
@@ -447,21 +445,21 @@ sound_transaction = (
 sound_upkeep : Sound upkeep
 unfolding upkeep is
 sound_upkeep = (
-  (sound_word k.Compact, sound_table, λ a. refl),
+  (sound_word words.Compact, sound_table, λ a. refl),
   (
-    (sound_word k.Flush, sound_table, λ a. refl),
+    (sound_word words.Flush, sound_table, λ a. refl),
     (
-      (sound_word k.Expire, sound_count, λ a. refl),
-      (sound_word k.Clean, sound_word k.Snapshots, elim [ k.And ↦ refl | _ ↦ refl ], refl, refl),
-      elim [ k.And ↦ refl | _ ↦ refl ],
+      (sound_word words.Expire, sound_count, λ a. refl),
+      (sound_word words.Clean, sound_word words.Snapshots, elim [ k.Keyword words.And ↦ refl | k.Sign signs.Comma ↦ refl | _ ↦ refl ], refl, refl),
+      elim [ k.Keyword words.And ↦ refl | k.Sign signs.Comma ↦ refl | _ ↦ refl ],
       refl,
       refl,
     ),
-    elim [ k.And ↦ refl | _ ↦ refl ],
+    elim [ k.Keyword words.And ↦ refl | k.Sign signs.Comma ↦ refl | _ ↦ refl ],
     refl,
     refl,
   ),
-  elim [ k.And ↦ refl | _ ↦ refl ],
+  elim [ k.Keyword words.And ↦ refl | k.Sign signs.Comma ↦ refl | _ ↦ refl ],
   refl,
   refl,
 )
@@ -475,15 +473,15 @@ sound_stmt = (
     (
       sound_rows,
       sound_upkeep,
-      elim [ k.And ↦ refl | _ ↦ refl ],
+      elim [ k.Keyword words.And ↦ refl | k.Sign signs.Comma ↦ refl | _ ↦ refl ],
       refl,
       refl,
     ),
-    elim [ k.And ↦ refl | _ ↦ refl ],
+    elim [ k.Keyword words.And ↦ refl | k.Sign signs.Comma ↦ refl | _ ↦ refl ],
     refl,
     refl,
   ),
-  elim [ k.And ↦ refl | _ ↦ refl ],
+  elim [ k.Keyword words.And ↦ refl | k.Sign signs.Comma ↦ refl | _ ↦ refl ],
   refl,
   refl,
 )

@@ -1,12 +1,10 @@
 -- What a line says, and where it fails to be one.
-use Rattle.std.specs.Prelude.{ℕ, ◌≤◌, ◌<◌, ◌≡◌, List, [], ◌∷◌, length, slice_index_or, Option, Some, None, Result, Ok, Err, if◌then◌else◌}
+use Rattle.std.specs.Prelude.{ℕ, ◌≤◌, ◌<◌, ◌≡◌, nat_lt, List, length, slice_index_or, Option, Some, None, Result, Ok, Err, if◌then◌else◌}
 use Rattle.lake_types.specs.declared.stmt.Stmt.{Stmt}
-use Rattle.line_tokens.specs.declared.token.Kind.TheVariants as k
-use Rattle.line_tokens.specs.declared.token.Token.{Token}
-use Rattle.line_tokens.specs.Tokens.{tokens_of, places_of, first_of}
-use Rattle.token_grammar.specs.Grammar.{Spells}
-use Rattle.token_grammar.specs.Phrases.{is}
-use Rattle.token_grammar.specs.Places.{IsWrongAt}
+use Rattle.stmt_tokens.specs.declared.token.Token.{Token}
+use Rattle.stmt_tokens.specs.Tokens.{tokens_of, places_of, number_first}
+use Rattle.stmt_grammar.specs.Grammar.{Spells, read}
+use Rattle.stmt_grammar.specs.Places.{IsWrongAt, ended}
 use Rattle.stmt_reader.specs.declared.line.Fault.{Fault}
 use Rattle.stmt_reader.specs.declared.line.Fault.TheVariants.{WrongAt, NoMemory}
 use Rattle.stmt_reader.specs.declared.line.LineNo.{LineNo}
@@ -28,13 +26,14 @@ abbrev pub or_zero : Option ℕ → ℕ
 or_zero None = 0
 or_zero (Some n) = n
 
-abbrev pub session_in : Option Token → ℕ
-session_in None = 0
-session_in (Some t) = if is k.Number t.kind then or_zero (session_of t.text) else 0
+-- the session that a number's text names
+abbrev pub session_named : Option (List ℕ) → ℕ
+session_named None = 0
+session_named (Some text) = or_zero (session_of text)
 
 -- the first token's session, or 0 where it is none
 abbrev pub session_at : List ℕ → ℕ
-session_at line = session_in (first_of (tokens_of line))
+session_at line = session_named (number_first line)
 
 -- the offset of a token, or the line's length behind the last one
 abbrev pub place : List ℕ → ℕ → ℕ
@@ -51,6 +50,24 @@ LineAnswers line (Err (TooLong session)) = (longest < length line) × (session �
 LineAnswers line (Err (Syntax session at)) = (length line ≤ longest) × (session ≡ session_at line) × IsFaultAt line at
 LineAnswers line (Err Memory) = Unit {0}
 
+-- ---- the answer as a function
+
+-- what is answered where the tokens say something, or so many stand before the wrong one
+abbrev pub answer_in : List ℕ → Result (ℕ × Stmt) ℕ → Result (ℕ × Stmt) LineNo
+answer_in line (Ok said) = Ok said
+answer_in line (Err n) = Err (Syntax (session_at line) (place line n))
+
+-- the answer of a line
+unfoldable pub answer_of : List ℕ → Result (ℕ × Stmt) LineNo
+answer_of line =
+    if nat_lt longest (length line) then Err (TooLong (session_at line))
+    else answer_in line (ended (tokens_of line) (read rules.line (tokens_of line)))
+
+-- this is the line's answer, or want of memory
+abbrev pub IsAnswer : List ℕ → Result (ℕ × Stmt) LineNo → Type 0
+IsAnswer line (Err Memory) = Unit {0}
+IsAnswer line answer = answer ≡ answer_of line
+
 -- ---- tokens
 
 -- a whole line's answer is this one, but for want of memory
@@ -64,11 +81,6 @@ TokensAnswer ts (Ok said) = Spells rules.line ts said
 TokensAnswer ts (Err (WrongAt n)) = IsWrongAt rules.line ts n
 TokensAnswer ts (Err NoMemory) = Unit {0}
 
-abbrev pub located : List Token → List ℕ → ℕ → Fault → LineNo
-located ts places len (WrongAt n) = Syntax (session_in (first_of ts)) (slice_index_or places n len)
-located ts places len NoMemory = Memory
-
-abbrev pub IsTooLong : List ℕ → LineNo → Type 0
-IsTooLong line (TooLong session) = session ≡ session_at line
-IsTooLong line (Syntax session at) = ⊥
-IsTooLong line Memory = Unit {0}
+abbrev pub located : List ℕ → List ℕ → Fault → LineNo
+located line places (WrongAt n) = Syntax (session_at line) (slice_index_or places n (length line))
+located line places NoMemory = Memory

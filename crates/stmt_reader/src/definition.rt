@@ -1,26 +1,26 @@
 ghost use Rattle.std.specs.Prelude.{◌≡◌};
 ghost use Rattle.stmt_reader.specs.Rules as spec;
-ghost use Rattle.token_grammar.specs.Grammar.{first, read, starts};
-ghost use Rattle.token_grammar.specs.Reads.{Reads};
+ghost use Rattle.stmt_grammar.specs.Grammar.{first, read, starts};
+ghost use Rattle.stmt_grammar.specs.Reads.{Reads};
 
 use crate::literals::literal;
 use crate::names::{column, column_type, columns, name, table};
 use lake_types::{Alter, Stmt};
-use line_tokens::Kind;
 use std::alloc::Global;
-use token_grammar::{Cursor, Stop};
+use stmt_grammar::{Cursor, Stop};
+use stmt_tokens::Keyword;
 
 #[tactic(auto, unfolding(crate::specs::Rules::create))]
 fn create(alloc: Global, tokens: &mut Cursor<'_>) -> Result<Stmt, Stop>
     ensures { Reads (read spec.create tokens.old.rest.now) result tokens.new.rest.now }
 {
-    if tokens.sees(Kind::Schema) {
-        tokens.expect(Kind::Schema)?;
+    if tokens.sees(Keyword::Schema) {
+        tokens.expect(Keyword::Schema)?;
         Ok(Stmt::CreateSchema {
             name: name(alloc, tokens)?,
         })
     } else {
-        tokens.expect(Kind::Table)?;
+        tokens.expect(Keyword::Table)?;
         let table = table(alloc, tokens)?;
         let columns = columns(alloc, tokens)?;
         Ok(Stmt::CreateTable { table, columns })
@@ -31,13 +31,13 @@ fn create(alloc: Global, tokens: &mut Cursor<'_>) -> Result<Stmt, Stop>
 fn remove(alloc: Global, tokens: &mut Cursor<'_>) -> Result<Stmt, Stop>
     ensures { Reads (read spec.remove tokens.old.rest.now) result tokens.new.rest.now }
 {
-    if tokens.sees(Kind::Schema) {
-        tokens.expect(Kind::Schema)?;
+    if tokens.sees(Keyword::Schema) {
+        tokens.expect(Keyword::Schema)?;
         Ok(Stmt::DropSchema {
             name: name(alloc, tokens)?,
         })
     } else {
-        tokens.expect(Kind::Table)?;
+        tokens.expect(Keyword::Table)?;
         let table = table(alloc, tokens)?;
         Ok(Stmt::DropTable { table })
     }
@@ -47,10 +47,10 @@ fn remove(alloc: Global, tokens: &mut Cursor<'_>) -> Result<Stmt, Stop>
 fn rename(alloc: Global, tokens: &mut Cursor<'_>) -> Result<Alter, Stop>
     ensures { Reads (read spec.rename tokens.old.rest.now) result tokens.new.rest.now }
 {
-    tokens.expect(Kind::Rename)?;
-    tokens.expect(Kind::Column)?;
+    tokens.expect(Keyword::Rename)?;
+    tokens.expect(Keyword::Column)?;
     let from = name(alloc, tokens)?;
-    tokens.expect(Kind::To)?;
+    tokens.expect(Keyword::To)?;
     let to = name(alloc, tokens)?;
     Ok(Alter::Rename { name: from, to })
 }
@@ -59,17 +59,17 @@ fn rename(alloc: Global, tokens: &mut Cursor<'_>) -> Result<Alter, Stop>
 fn set_column(alloc: Global, tokens: &mut Cursor<'_>) -> Result<Alter, Stop>
     ensures { Reads (read spec.set_column tokens.old.rest.now) result tokens.new.rest.now }
 {
-    tokens.expect(Kind::Alter)?;
-    tokens.expect(Kind::Column)?;
+    tokens.expect(Keyword::Alter)?;
+    tokens.expect(Keyword::Column)?;
     let name = name(alloc, tokens)?;
-    tokens.expect(Kind::Set)?;
-    if tokens.sees(Kind::Data) {
-        tokens.expect(Kind::Data)?;
-        tokens.expect(Kind::Type)?;
+    tokens.expect(Keyword::Set)?;
+    if tokens.sees(Keyword::Data) {
+        tokens.expect(Keyword::Data)?;
+        tokens.expect(Keyword::Type)?;
         let ty = column_type(tokens)?;
         Ok(Alter::Promote { name, ty })
     } else {
-        tokens.expect(Kind::Default)?;
+        tokens.expect(Keyword::Default)?;
         let value = literal(alloc, tokens)?;
         Ok(Alter::SetDefault { name, value })
     }
@@ -80,19 +80,19 @@ fn set_column(alloc: Global, tokens: &mut Cursor<'_>) -> Result<Alter, Stop>
 fn change(alloc: Global, tokens: &mut Cursor<'_>) -> Result<Alter, Stop>
     ensures { Reads (read spec.change tokens.old.rest.now) result tokens.new.rest.now }
 {
-    if tokens.sees(Kind::Add) {
-        tokens.expect(Kind::Add)?;
-        tokens.expect(Kind::Column)?;
+    if tokens.sees(Keyword::Add) {
+        tokens.expect(Keyword::Add)?;
+        tokens.expect(Keyword::Column)?;
         return Ok(Alter::Add(column(alloc, tokens)?));
     }
-    if tokens.sees(Kind::Drop) {
-        tokens.expect(Kind::Drop)?;
-        tokens.expect(Kind::Column)?;
+    if tokens.sees(Keyword::Drop) {
+        tokens.expect(Keyword::Drop)?;
+        tokens.expect(Keyword::Column)?;
         return Ok(Alter::Remove {
             name: name(alloc, tokens)?,
         });
     }
-    if tokens.sees(Kind::Rename) {
+    if tokens.sees(Keyword::Rename) {
         return rename(alloc, tokens);
     }
     set_column(alloc, tokens)
@@ -102,7 +102,7 @@ fn change(alloc: Global, tokens: &mut Cursor<'_>) -> Result<Alter, Stop>
 fn alter(alloc: Global, tokens: &mut Cursor<'_>) -> Result<Stmt, Stop>
     ensures { Reads (read spec.alter tokens.old.rest.now) result tokens.new.rest.now }
 {
-    tokens.expect(Kind::Table)?;
+    tokens.expect(Keyword::Table)?;
     let table = table(alloc, tokens)?;
     let change = change(alloc, tokens)?;
     Ok(Stmt::Change { table, change })
@@ -113,7 +113,7 @@ fn alter(alloc: Global, tokens: &mut Cursor<'_>) -> Result<Stmt, Stop>
 pub fn opens_definition(tokens: &Cursor<'_>) -> bool
     ensures { result ≡ starts (first spec.definition) tokens.now.rest.now }
 {
-    tokens.sees(Kind::Create) || tokens.sees(Kind::Drop) || tokens.sees(Kind::Alter)
+    tokens.sees(Keyword::Create) || tokens.sees(Keyword::Drop) || tokens.sees(Keyword::Alter)
 }
 
 /// A statement on schemas and tables.
@@ -121,14 +121,14 @@ pub fn opens_definition(tokens: &Cursor<'_>) -> bool
 pub fn definition(alloc: Global, tokens: &mut Cursor<'_>) -> Result<Stmt, Stop>
     ensures { Reads (read spec.definition tokens.old.rest.now) result tokens.new.rest.now }
 {
-    if tokens.sees(Kind::Create) {
-        tokens.expect(Kind::Create)?;
+    if tokens.sees(Keyword::Create) {
+        tokens.expect(Keyword::Create)?;
         return create(alloc, tokens);
     }
-    if tokens.sees(Kind::Drop) {
-        tokens.expect(Kind::Drop)?;
+    if tokens.sees(Keyword::Drop) {
+        tokens.expect(Keyword::Drop)?;
         return remove(alloc, tokens);
     }
-    tokens.expect(Kind::Alter)?;
+    tokens.expect(Keyword::Alter)?;
     alter(alloc, tokens)
 }

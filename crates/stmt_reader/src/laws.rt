@@ -1,15 +1,18 @@
-//! What holds of lines. Each function's contract is a law, and its body is empty. With them `read_line` answers,
-//! but for want of memory, exactly one thing of each line.
+//! What holds of lines. Each function's contract is a law, and its body is empty.
 
-ghost use Rattle.stmt_reader.specs.Laws.{HasOnePlace, SaysOneThing, SaysOrFails};
+ghost use Rattle.stmt_reader.specs.Laws.{HasAnAnswer, HasOneAnswer, HasOnePlace, SaysItsSession, SaysOneThing, SaysOrFails};
 
-/// A line says one thing at most.
+/// A line says one thing at most, and with it its session.
 pub fn each_line_says_one_thing()
-    ensures { SaysOneThing }
+    ensures thing { SaysOneThing }
+    ensures session { SaysItsSession }
 {}
 
-/// A line that says something has no fault, and a line has one at most.
+/// Each line has exactly one answer, want of memory left out: it says a session and a statement, or is too long, or
+/// is wrong at exactly one place.
 pub fn each_line_has_one_answer()
+    ensures answer { HasAnAnswer }
+    ensures only { HasOneAnswer }
     ensures fault { SaysOrFails }
     ensures place { HasOnePlace }
 {}

@@ -13,4 +13,4 @@ mod rows;
 mod statement;
 
 pub use laws::{each_line_has_one_answer, each_line_says_one_thing};
-pub use line::{LineNo, read_line};
+pub use line::{LineNo, read_line, session_of_line};

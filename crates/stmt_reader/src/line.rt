@@ -1,18 +1,17 @@
 ghost use Rattle.std.specs.Prelude.{◌≡◌};
-ghost use Rattle.line_tokens.specs.Tokens.{first_of};
 ghost use Rattle.stmt_reader.specs.Lines as lines;
 ghost use Rattle.stmt_reader.specs.Rules as spec;
-ghost use Rattle.token_grammar.specs.Grammar.{read};
-ghost use Rattle.token_grammar.specs.Places.{ended};
-ghost use Rattle.token_grammar.specs.Reads.{Reads};
+ghost use Rattle.stmt_grammar.specs.Grammar.{read};
+ghost use Rattle.stmt_grammar.specs.Places.{ended};
+ghost use Rattle.stmt_grammar.specs.Reads.{Reads};
 
 use crate::numbers::session_of;
 use crate::statement::stmt;
 use lake_types::Stmt;
-use line_tokens::{Cut, Kind, Token, cut_of, first_token};
 use std::alloc::Global;
+use stmt_grammar::{Cursor, Stop};
+use stmt_tokens::{Cut, Kind, Sign, Token, cut_of, first_number};
 use thiserror::Error;
-use token_grammar::{Cursor, Stop};
 
 /// The most bytes of a line, its line feed and a carriage return before it left out.
 const LINE_MOST: usize = 1_048_576;
@@ -37,28 +36,34 @@ pub enum Fault {
     NoMemory,
 }
 
-#[tactic(auto, unfolding(token_grammar::specs::Phrases::is))]
-fn session_in(token: &Token) -> u8
-    ensures { result ≡ lines.session_in (Some token.now) }
+/// The session of a line: that of its first token where this is a valid one, else 0. It takes no memory, and the
+/// line may be longer than a line may be.
+pub fn session_of_line(line: &[u8]) -> u8
+    ensures { result ≡ lines.session_at line.now }
 {
-    if token.kind == Kind::Number {
-        match session_of(token.text.as_str().as_bytes()) {
-            Some(session) => session,
-            None => 0,
-        }
-    } else {
-        0
+    match first_number(line) {
+        Some(number) => session_named(number),
+        None => 0,
     }
 }
 
-#[tactic(auto, unfolding(token_grammar::specs::Phrases::is))]
+fn session_named(number: &[u8]) -> u8
+    ensures { result ≡ lines.session_named (Some number.now) }
+{
+    match session_of(number) {
+        Some(session) => session,
+        None => 0,
+    }
+}
+
+#[tactic(auto, unfolding(stmt_grammar::specs::Phrases::is))]
 fn session(tokens: &mut Cursor<'_>) -> Result<u8, Stop>
     ensures { Reads (read spec.session tokens.old.rest.now) result tokens.new.rest.now }
 {
     let [token, more @ ..] = tokens.rest else {
         return Err(Stop::Wrong);
     };
-    if token.kind != Kind::Number {
+    if !matches!(token.kind, Kind::Number) {
         return Err(Stop::Wrong);
     }
     match session_of(token.text.as_str().as_bytes()) {
@@ -76,8 +81,8 @@ fn front(alloc: Global, tokens: &mut Cursor<'_>) -> Result<(u8, Stmt), Stop>
 {
     let number = session(tokens)?;
     let stmt = stmt(alloc, tokens)?;
-    if tokens.sees(Kind::Semicolon) {
-        tokens.expect(Kind::Semicolon)?;
+    if tokens.sees_sign(Sign::Semicolon) {
+        tokens.expect_sign(Sign::Semicolon)?;
     }
     Ok((number, stmt))
 }
@@ -108,20 +113,11 @@ fn read_tokens(alloc: Global, tokens: &[Token]) -> Result<(u8, Stmt), Fault>
     found
 }
 
-fn session_first(tokens: &[Token]) -> u8
-    ensures { result ≡ lines.session_in (first_of tokens.now) }
+/// The fault, with its session and its place in the line.
+fn located(line: &[u8], places: &[usize], fault: Fault) -> LineNo
+    ensures { result ≡ lines.located line.now places.now fault }
 {
-    match tokens {
-        [token, ..] => session_in(token),
-        [] => 0,
-    }
-}
-
-/// The fault, with its session and its place in a line of so many bytes.
-fn located(tokens: &[Token], places: &[usize], len: usize, fault: Fault) -> LineNo
-    ensures { result ≡ lines.located tokens.now places.now len fault }
-{
-    let session = session_first(tokens);
+    let session = session_of_line(line);
     match fault {
         Fault::WrongAt(n) => match places.get(n) {
             Some(at) => LineNo::Syntax {
@@ -130,39 +126,38 @@ fn located(tokens: &[Token], places: &[usize], len: usize, fault: Fault) -> Line
             },
             None => LineNo::Syntax {
                 session,
-                at: len as u64,
+                at: line.len() as u64,
             },
         },
         Fault::NoMemory => LineNo::Memory,
     }
 }
 
-fn too_long(alloc: Global, line: &[u8]) -> LineNo
-    ensures { lines.IsTooLong line.now result }
-{
-    match first_token(alloc, line) {
-        Ok(Some(token)) => LineNo::TooLong {
-            session: session_in(&token),
-        },
-        Ok(None) => LineNo::TooLong { session: 0 },
-        Err(_) => LineNo::Memory,
-    }
-}
-
-/// The session and the statement of a line, which stands without its line feed and a carriage return
-/// before it. A fault has the offset of the first token with which no line goes on.
-#[tactic(auto, unfolding(line_tokens::specs::Tokens::cut_of), using(crate::proofs::LineAnswer::located_fault))]
-pub fn read_line(alloc: Global, line: &[u8]) -> Result<(u8, Stmt), LineNo>
+#[tactic(auto, unfolding(stmt_tokens::specs::Tokens::cut_of), using(crate::proofs::LineAnswer::located_fault))]
+fn line_answer(alloc: Global, line: &[u8]) -> Result<(u8, Stmt), LineNo>
     ensures { lines.LineAnswers line.now result }
 {
     if line.len() > LINE_MOST {
-        return Err(too_long(alloc, line));
+        return Err(LineNo::TooLong {
+            session: session_of_line(line),
+        });
     }
     let Ok(Cut { tokens, places }) = cut_of(alloc, line) else {
         return Err(LineNo::Memory);
     };
     match read_tokens(alloc, tokens.as_slice()) {
         Ok(said) => Ok(said),
-        Err(fault) => Err(located(tokens.as_slice(), places.as_slice(), line.len(), fault)),
+        Err(fault) => Err(located(line, places.as_slice(), fault)),
     }
+}
+
+/// The session and the statement of a line, which stands without its line feed and a carriage return
+/// before it. A fault has the offset of the first token with which no line goes on.
+#[tactic(auto, using(crate::proofs::AnswerLemmas::answers))]
+pub fn read_line(alloc: Global, line: &[u8]) -> Result<(u8, Stmt), LineNo>
+    ensures exact { lines.LineAnswers line.now result }
+    ensures total { lines.IsAnswer line.now result }
+{
+    let answer = line_answer(alloc, line);
+    answer
 }

@@ -1,22 +1,22 @@
 ghost use Rattle.std.specs.Prelude.{◌≡◌, IfOk};
 ghost use Rattle.stmt_reader.specs.Rules as spec;
-ghost use Rattle.token_grammar.specs.Grammar.{read};
-ghost use Rattle.token_grammar.specs.Reads.{Reads};
+ghost use Rattle.stmt_grammar.specs.Grammar.{read};
+ghost use Rattle.stmt_grammar.specs.Reads.{Reads};
 
 use crate::numbers::{integer_of, unhex};
 use lake_types::{BadValue, Blob, ColType, Copied, Value, value_of};
-use line_tokens::Kind;
 use std::alloc::{AllocError, Global};
-use token_grammar::{Cursor, Stop};
+use stmt_grammar::{Cursor, Stop};
+use stmt_tokens::{Keyword, Kind};
 
-#[tactic(auto, unfolding(token_grammar::specs::Phrases::is))]
+#[tactic(auto, unfolding(stmt_grammar::specs::Phrases::is))]
 fn number(tokens: &mut Cursor<'_>) -> Result<Value, Stop>
     ensures { Reads (read spec.number tokens.old.rest.now) result tokens.new.rest.now }
 {
     let [token, more @ ..] = tokens.rest else {
         return Err(Stop::Wrong);
     };
-    if token.kind != Kind::Number {
+    if !matches!(token.kind, Kind::Number) {
         return Err(Stop::Wrong);
     }
     match integer_of(token.text.as_str().as_bytes()) {
@@ -28,14 +28,14 @@ fn number(tokens: &mut Cursor<'_>) -> Result<Value, Stop>
     }
 }
 
-#[tactic(auto, unfolding(token_grammar::specs::Phrases::is))]
+#[tactic(auto, unfolding(stmt_grammar::specs::Phrases::is))]
 fn text(alloc: Global, tokens: &mut Cursor<'_>) -> Result<Value, Stop>
     ensures { Reads (read spec.text tokens.old.rest.now) result tokens.new.rest.now }
 {
     let [token, more @ ..] = tokens.rest else {
         return Err(Stop::Wrong);
     };
-    if token.kind != Kind::Text {
+    if !matches!(token.kind, Kind::Text) {
         return Err(Stop::Wrong);
     }
     let text = token.text.copy(alloc)?;
@@ -43,14 +43,14 @@ fn text(alloc: Global, tokens: &mut Cursor<'_>) -> Result<Value, Stop>
     Ok(Value::Text(text))
 }
 
-#[tactic(auto, unfolding(token_grammar::specs::Phrases::is))]
+#[tactic(auto, unfolding(stmt_grammar::specs::Phrases::is))]
 fn bytes(alloc: Global, tokens: &mut Cursor<'_>) -> Result<Value, Stop>
     ensures { Reads (read spec.bytes tokens.old.rest.now) result tokens.new.rest.now }
 {
     let [token, more @ ..] = tokens.rest else {
         return Err(Stop::Wrong);
     };
-    if token.kind != Kind::Bytes {
+    if !matches!(token.kind, Kind::Bytes) {
         return Err(Stop::Wrong);
     }
     let bytes = unhex(alloc, token.text.as_str().as_bytes())?;
@@ -72,14 +72,14 @@ fn day_of(alloc: Global, text: &str) -> Result<Option<Value>, AllocError>
 }
 
 /// The text behind DATE.
-#[tactic(auto, unfolding(token_grammar::specs::Phrases::is))]
+#[tactic(auto, unfolding(stmt_grammar::specs::Phrases::is))]
 fn day(alloc: Global, tokens: &mut Cursor<'_>) -> Result<Value, Stop>
     ensures { Reads (read spec.day tokens.old.rest.now) result tokens.new.rest.now }
 {
     let [token, more @ ..] = tokens.rest else {
         return Err(Stop::Wrong);
     };
-    if token.kind != Kind::Text {
+    if !matches!(token.kind, Kind::Text) {
         return Err(Stop::Wrong);
     }
     match day_of(alloc, token.text.as_str())? {
@@ -95,9 +95,9 @@ fn constant_of(kind: Kind) -> Option<Value>
     ensures { result ≡ spec.constant_of kind }
 {
     match kind {
-        Kind::Null => Some(Value::Null),
-        Kind::True => Some(Value::Bool(true)),
-        Kind::False => Some(Value::Bool(false)),
+        Kind::Keyword(Keyword::Null) => Some(Value::Null),
+        Kind::Keyword(Keyword::True) => Some(Value::Bool(true)),
+        Kind::Keyword(Keyword::False) => Some(Value::Bool(false)),
         _ => None,
     }
 }
@@ -121,17 +121,17 @@ fn constant(tokens: &mut Cursor<'_>) -> Result<Value, Stop>
 pub fn literal(alloc: Global, tokens: &mut Cursor<'_>) -> Result<Value, Stop>
     ensures { Reads (read spec.literal tokens.old.rest.now) result tokens.new.rest.now }
 {
-    if tokens.sees(Kind::Number) {
+    if tokens.sees_kind(Kind::Number) {
         return number(tokens);
     }
-    if tokens.sees(Kind::Text) {
+    if tokens.sees_kind(Kind::Text) {
         return text(alloc, tokens);
     }
-    if tokens.sees(Kind::Bytes) {
+    if tokens.sees_kind(Kind::Bytes) {
         return bytes(alloc, tokens);
     }
-    if tokens.sees(Kind::Date) {
-        tokens.expect(Kind::Date)?;
+    if tokens.sees(Keyword::Date) {
+        tokens.expect(Keyword::Date)?;
         return day(alloc, tokens);
     }
     constant(tokens)

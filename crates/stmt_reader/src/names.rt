@@ -1,68 +1,47 @@
 ghost use Rattle.std.specs.Prelude.{◌≡◌};
 ghost use Rattle.stmt_reader.specs.Rules as spec;
-ghost use Rattle.token_grammar.specs.Grammar.{read};
-ghost use Rattle.token_grammar.specs.Phrases as phrases;
-ghost use Rattle.token_grammar.specs.Reads.{Reads};
+ghost use Rattle.stmt_grammar.specs.Grammar.{read};
+ghost use Rattle.stmt_grammar.specs.Phrases as phrases;
+ghost use Rattle.stmt_grammar.specs.Reads.{Reads};
 
 use crate::literals::literal;
 use lake_types::{ColType, ColumnDef, ColumnDefs, Copied, Listed, TableName, Value, Words};
-use line_tokens::Kind;
 use std::alloc::Global;
-use token_grammar::{Cursor, Stop};
+use stmt_grammar::{Cursor, Stop};
+use stmt_tokens::{Keyword, Kind, Sign};
 
-fn is_reserved(kind: Kind) -> bool
-    ensures { result ≡ spec.is_reserved kind }
+fn is_reserved(keyword: Keyword) -> bool
+    ensures { result ≡ spec.is_reserved keyword }
 {
     matches!(
-        kind,
-        Kind::And
-            | Kind::Default
-            | Kind::False
-            | Kind::From
-            | Kind::Is
-            | Kind::Not
-            | Kind::Null
-            | Kind::Or
-            | Kind::RowId
-            | Kind::Select
-            | Kind::Set
-            | Kind::Table
-            | Kind::To
-            | Kind::True
-            | Kind::Values
-            | Kind::Where
-    )
-}
-
-fn is_other(kind: Kind) -> bool
-    ensures { result ≡ spec.is_other kind }
-{
-    matches!(
-        kind,
-        Kind::Number
-            | Kind::Text
-            | Kind::Bytes
-            | Kind::LeftParen
-            | Kind::RightParen
-            | Kind::Comma
-            | Kind::Dot
-            | Kind::Semicolon
-            | Kind::Star
-            | Kind::Eq
-            | Kind::Ne
-            | Kind::Lt
-            | Kind::Le
-            | Kind::Gt
-            | Kind::Ge
-            | Kind::Arrow
-            | Kind::Bad
+        keyword,
+        Keyword::And
+            | Keyword::Default
+            | Keyword::False
+            | Keyword::From
+            | Keyword::Is
+            | Keyword::Not
+            | Keyword::Null
+            | Keyword::Or
+            | Keyword::RowId
+            | Keyword::Select
+            | Keyword::Set
+            | Keyword::Table
+            | Keyword::To
+            | Keyword::True
+            | Keyword::Values
+            | Keyword::Where
     )
 }
 
 fn is_name(kind: Kind) -> bool
     ensures { result ≡ spec.is_name kind }
 {
-    !(is_reserved(kind) || is_other(kind))
+    match kind {
+        Kind::Quoted | Kind::Word => true,
+        Kind::Keyword(keyword) => !is_reserved(keyword),
+        _ => false,
+    }
 }
 
 #[tactic(auto, unfolding(crate::specs::Rules::name))]
@@ -88,8 +67,8 @@ pub fn table(alloc: Global, tokens: &mut Cursor<'_>) -> Result<TableName, Stop>
     ensures { Reads (read spec.table tokens.old.rest.now) result tokens.new.rest.now }
 {
     let first = name(alloc, tokens)?;
-    if tokens.sees(Kind::Dot) {
-        tokens.expect(Kind::Dot)?;
+    if tokens.sees_sign(Sign::Dot) {
+        tokens.expect_sign(Sign::Dot)?;
         let table = name(alloc, tokens)?;
         Ok(TableName {
             schema: first,
@@ -107,14 +86,14 @@ fn type_of(kind: Kind) -> Option<ColType>
     ensures { result ≡ spec.type_of kind }
 {
     match kind {
-        Kind::Boolean => Some(ColType::Bool),
-        Kind::TinyInt => Some(ColType::Int8),
-        Kind::SmallInt => Some(ColType::Int16),
-        Kind::Integer => Some(ColType::Int32),
-        Kind::BigInt => Some(ColType::Int64),
-        Kind::Varchar => Some(ColType::Varchar),
-        Kind::Blob => Some(ColType::Blob),
-        Kind::Date => Some(ColType::Date),
+        Kind::Keyword(Keyword::Boolean) => Some(ColType::Bool),
+        Kind::Keyword(Keyword::TinyInt) => Some(ColType::Int8),
+        Kind::Keyword(Keyword::SmallInt) => Some(ColType::Int16),
+        Kind::Keyword(Keyword::Integer) => Some(ColType::Int32),
+        Kind::Keyword(Keyword::BigInt) => Some(ColType::Int64),
+        Kind::Keyword(Keyword::Varchar) => Some(ColType::Varchar),
+        Kind::Keyword(Keyword::Blob) => Some(ColType::Blob),
+        Kind::Keyword(Keyword::Date) => Some(ColType::Date),
         _ => None,
     }
 }
@@ -140,9 +119,9 @@ pub fn column_type(tokens: &mut Cursor<'_>) -> Result<ColType, Stop>
 fn nulls(tokens: &mut Cursor<'_>) -> Result<bool, Stop>
     ensures { Reads (read spec.nulls tokens.old.rest.now) result tokens.new.rest.now }
 {
-    if tokens.sees(Kind::Not) {
-        tokens.expect(Kind::Not)?;
-        tokens.expect(Kind::Null)?;
+    if tokens.sees(Keyword::Not) {
+        tokens.expect(Keyword::Not)?;
+        tokens.expect(Keyword::Null)?;
         Ok(false)
     } else {
         Ok(true)
@@ -153,8 +132,8 @@ fn nulls(tokens: &mut Cursor<'_>) -> Result<bool, Stop>
 fn default_value(alloc: Global, tokens: &mut Cursor<'_>) -> Result<Option<Value>, Stop>
     ensures { Reads (read spec.default_value tokens.old.rest.now) result tokens.new.rest.now }
 {
-    if tokens.sees(Kind::Default) {
-        tokens.expect(Kind::Default)?;
+    if tokens.sees(Keyword::Default) {
+        tokens.expect(Keyword::Default)?;
         Ok(Some(literal(alloc, tokens)?))
     } else {
         Ok(None)
@@ -177,17 +156,17 @@ pub fn column(alloc: Global, tokens: &mut Cursor<'_>) -> Result<ColumnDef, Stop>
     })
 }
 
-#[tactic(auto, using(token_grammar::proofs::ListSteps::list_steps))]
+#[tactic(auto, using(stmt_grammar::proofs::ListSteps::list_steps))]
 fn column_list(alloc: Global, tokens: &mut Cursor<'_>) -> Result<ColumnDefs, Stop>
     ensures { Reads (read (phrases.list spec.column) tokens.old.rest.now) result tokens.new.rest.now }
 {
     let mut columns = Listed::new(alloc);
     columns.push(column(alloc, tokens)?)?;
     for _turn in 0..tokens.rest.len() {
-        if !tokens.sees(Kind::Comma) {
+        if !tokens.sees_sign(Sign::Comma) {
             return Ok(columns);
         }
-        tokens.expect(Kind::Comma)?;
+        tokens.expect_sign(Sign::Comma)?;
         columns.push(column(alloc, tokens)?)?;
     }
     Ok(columns)
@@ -198,8 +177,8 @@ fn column_list(alloc: Global, tokens: &mut Cursor<'_>) -> Result<ColumnDefs, Sto
 pub fn columns(alloc: Global, tokens: &mut Cursor<'_>) -> Result<ColumnDefs, Stop>
     ensures { Reads (read spec.columns tokens.old.rest.now) result tokens.new.rest.now }
 {
-    tokens.expect(Kind::LeftParen)?;
+    tokens.expect_sign(Sign::LeftParen)?;
     let columns = column_list(alloc, tokens)?;
-    tokens.expect(Kind::RightParen)?;
+    tokens.expect_sign(Sign::RightParen)?;
     Ok(columns)
 }

@@ -1,16 +1,16 @@
 ghost use Rattle.std.specs.Prelude.{◌≡◌};
 ghost use Rattle.stmt_reader.specs.Rules as spec;
-ghost use Rattle.token_grammar.specs.Grammar.{read};
-ghost use Rattle.token_grammar.specs.Phrases as phrases;
-ghost use Rattle.token_grammar.specs.Reads.{Reads};
+ghost use Rattle.stmt_grammar.specs.Grammar.{read};
+ghost use Rattle.stmt_grammar.specs.Phrases as phrases;
+ghost use Rattle.stmt_grammar.specs.Reads.{Reads};
 
 use crate::literals::literal;
 use crate::names::name;
 use lake_types::{Op, Pred, PredList, Value};
-use line_tokens::Kind;
 use sqlite_items::{Boxed, Items};
 use std::alloc::Global;
-use token_grammar::{Cursor, Stop};
+use stmt_grammar::{Cursor, Stop};
+use stmt_tokens::{Keyword, Kind, Sign};
 
 /// How many parentheses and NOTs may be open inside one another.
 const DEPTH_MOST: usize = 64;
@@ -19,12 +19,12 @@ fn op_of(kind: Kind) -> Option<Op>
     ensures { result ≡ spec.op_of kind }
 {
     match kind {
-        Kind::Eq => Some(Op::Eq),
-        Kind::Ne => Some(Op::Ne),
-        Kind::Lt => Some(Op::Lt),
-        Kind::Le => Some(Op::Le),
-        Kind::Gt => Some(Op::Gt),
-        Kind::Ge => Some(Op::Ge),
+        Kind::Sign(Sign::Eq) => Some(Op::Eq),
+        Kind::Sign(Sign::Ne) => Some(Op::Ne),
+        Kind::Sign(Sign::Lt) => Some(Op::Lt),
+        Kind::Sign(Sign::Le) => Some(Op::Le),
+        Kind::Sign(Sign::Gt) => Some(Op::Gt),
+        Kind::Sign(Sign::Ge) => Some(Op::Ge),
         _ => None,
     }
 }
@@ -58,12 +58,12 @@ fn comparison(alloc: Global, tokens: &mut Cursor<'_>) -> Result<(Op, Value), Sto
 fn nullness(tokens: &mut Cursor<'_>) -> Result<bool, Stop>
     ensures { Reads (read spec.nullness tokens.old.rest.now) result tokens.new.rest.now }
 {
-    tokens.expect(Kind::Is)?;
-    let not = tokens.sees(Kind::Not);
+    tokens.expect(Keyword::Is)?;
+    let not = tokens.sees(Keyword::Not);
     if not {
-        tokens.expect(Kind::Not)?;
+        tokens.expect(Keyword::Not)?;
     }
-    tokens.expect(Kind::Null)?;
+    tokens.expect(Keyword::Null)?;
     Ok(not)
 }
 
@@ -72,7 +72,7 @@ fn simple_test(alloc: Global, tokens: &mut Cursor<'_>) -> Result<Pred, Stop>
     ensures { Reads (read spec.simple_test tokens.old.rest.now) result tokens.new.rest.now }
 {
     let name = name(alloc, tokens)?;
-    if tokens.sees(Kind::Is) {
+    if tokens.sees(Keyword::Is) {
         if nullness(tokens)? {
             Ok(Pred::NotNull { name })
         } else {
@@ -113,15 +113,15 @@ fn unary(alloc: Global, tokens: &mut Cursor<'_>, depth: usize) -> Result<Pred, S
     if depth == 0 {
         return simple_test(alloc, tokens);
     }
-    if tokens.sees(Kind::Not) {
-        tokens.expect(Kind::Not)?;
+    if tokens.sees(Keyword::Not) {
+        tokens.expect(Keyword::Not)?;
         let part = unary(alloc, tokens, depth - 1)?;
         return Ok(Pred::Not(Boxed::new(alloc, part)?));
     }
-    if tokens.sees(Kind::LeftParen) {
-        tokens.expect(Kind::LeftParen)?;
+    if tokens.sees_sign(Sign::LeftParen) {
+        tokens.expect_sign(Sign::LeftParen)?;
         let inner = any(alloc, tokens, depth - 1)?;
-        tokens.expect(Kind::RightParen)?;
+        tokens.expect_sign(Sign::RightParen)?;
         return Ok(inner);
     }
     let test = simple_test(alloc, tokens)?;
@@ -129,17 +129,17 @@ fn unary(alloc: Global, tokens: &mut Cursor<'_>, depth: usize) -> Result<Pred, S
 }
 
 #[cycle(predicate)]
-#[tactic(auto, using(token_grammar::proofs::ListSteps::list_steps))]
+#[tactic(auto, using(stmt_grammar::proofs::ListSteps::list_steps))]
 fn and_parts(alloc: Global, tokens: &mut Cursor<'_>, depth: usize) -> Result<PredList, Stop>
-    ensures { Reads (read (phrases.chain Kind.And (spec.unary depth)) tokens.old.rest.now) result tokens.new.rest.now }
+    ensures { Reads (read (phrases.chain (Kind.Keyword Keyword.And) (spec.unary depth)) tokens.old.rest.now) result tokens.new.rest.now }
 {
     let mut parts = Items::new(alloc);
     parts.push(unary(alloc, tokens, depth)?)?;
     for _turn in 0..tokens.rest.len() {
-        if !tokens.sees(Kind::And) {
+        if !tokens.sees(Keyword::And) {
             return Ok(parts);
         }
-        tokens.expect(Kind::And)?;
+        tokens.expect(Keyword::And)?;
         parts.push(unary(alloc, tokens, depth)?)?;
     }
     Ok(parts)
@@ -155,17 +155,17 @@ fn all(alloc: Global, tokens: &mut Cursor<'_>, depth: usize) -> Result<Pred, Sto
 }
 
 #[cycle(predicate)]
-#[tactic(auto, using(token_grammar::proofs::ListSteps::list_steps))]
+#[tactic(auto, using(stmt_grammar::proofs::ListSteps::list_steps))]
 fn or_parts(alloc: Global, tokens: &mut Cursor<'_>, depth: usize) -> Result<PredList, Stop>
-    ensures { Reads (read (phrases.chain Kind.Or (spec.ands (spec.unary depth))) tokens.old.rest.now) result tokens.new.rest.now }
+    ensures { Reads (read (phrases.chain (Kind.Keyword Keyword.Or) (spec.ands (spec.unary depth))) tokens.old.rest.now) result tokens.new.rest.now }
 {
     let mut parts = Items::new(alloc);
     parts.push(all(alloc, tokens, depth)?)?;
     for _turn in 0..tokens.rest.len() {
-        if !tokens.sees(Kind::Or) {
+        if !tokens.sees(Keyword::Or) {
             return Ok(parts);
         }
-        tokens.expect(Kind::Or)?;
+        tokens.expect(Keyword::Or)?;
         parts.push(all(alloc, tokens, depth)?)?;
     }
     Ok(parts)

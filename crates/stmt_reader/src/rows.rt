@@ -1,8 +1,8 @@
 ghost use Rattle.std.specs.Prelude.{◌≡◌};
 ghost use Rattle.stmt_reader.specs.Rules as spec;
-ghost use Rattle.token_grammar.specs.Grammar.{first, read, starts};
-ghost use Rattle.token_grammar.specs.Phrases as phrases;
-ghost use Rattle.token_grammar.specs.Reads.{Reads};
+ghost use Rattle.stmt_grammar.specs.Grammar.{first, read, starts};
+ghost use Rattle.stmt_grammar.specs.Phrases as phrases;
+ghost use Rattle.stmt_grammar.specs.Reads.{Reads};
 
 use crate::literals::literal;
 use crate::names::{name, table};
@@ -10,33 +10,33 @@ use crate::predicate::condition;
 use lake_types::{
     Assignments, Cell, CellList, CellRows, Item, ItemList, Listed, Pred, Stmt, Value, Words,
 };
-use line_tokens::Kind;
 use std::alloc::Global;
-use token_grammar::{Cursor, Stop};
+use stmt_grammar::{Cursor, Stop};
+use stmt_tokens::{Keyword, Sign};
 
 #[tactic(auto, unfolding(crate::specs::Rules::cell))]
 fn cell(alloc: Global, tokens: &mut Cursor<'_>) -> Result<Cell, Stop>
     ensures { Reads (read spec.cell tokens.old.rest.now) result tokens.new.rest.now }
 {
-    if tokens.sees(Kind::Default) {
-        tokens.expect(Kind::Default)?;
+    if tokens.sees(Keyword::Default) {
+        tokens.expect(Keyword::Default)?;
         Ok(Cell::Default)
     } else {
         Ok(Cell::Given(literal(alloc, tokens)?))
     }
 }
 
-#[tactic(auto, using(token_grammar::proofs::ListSteps::list_steps))]
+#[tactic(auto, using(stmt_grammar::proofs::ListSteps::list_steps))]
 fn cells(alloc: Global, tokens: &mut Cursor<'_>) -> Result<CellList, Stop>
     ensures { Reads (read (phrases.list spec.cell) tokens.old.rest.now) result tokens.new.rest.now }
 {
     let mut cells = Listed::new(alloc);
     cells.push(cell(alloc, tokens)?)?;
     for _turn in 0..tokens.rest.len() {
-        if !tokens.sees(Kind::Comma) {
+        if !tokens.sees_sign(Sign::Comma) {
             return Ok(cells);
         }
-        tokens.expect(Kind::Comma)?;
+        tokens.expect_sign(Sign::Comma)?;
         cells.push(cell(alloc, tokens)?)?;
     }
     Ok(cells)
@@ -46,23 +46,23 @@ fn cells(alloc: Global, tokens: &mut Cursor<'_>) -> Result<CellList, Stop>
 fn row(alloc: Global, tokens: &mut Cursor<'_>) -> Result<CellList, Stop>
     ensures { Reads (read spec.row tokens.old.rest.now) result tokens.new.rest.now }
 {
-    tokens.expect(Kind::LeftParen)?;
+    tokens.expect_sign(Sign::LeftParen)?;
     let cells = cells(alloc, tokens)?;
-    tokens.expect(Kind::RightParen)?;
+    tokens.expect_sign(Sign::RightParen)?;
     Ok(cells)
 }
 
-#[tactic(auto, using(token_grammar::proofs::ListSteps::list_steps))]
+#[tactic(auto, using(stmt_grammar::proofs::ListSteps::list_steps))]
 fn row_list(alloc: Global, tokens: &mut Cursor<'_>) -> Result<CellRows, Stop>
     ensures { Reads (read (phrases.list spec.row) tokens.old.rest.now) result tokens.new.rest.now }
 {
     let mut rows = Listed::new(alloc);
     rows.push(row(alloc, tokens)?)?;
     for _turn in 0..tokens.rest.len() {
-        if !tokens.sees(Kind::Comma) {
+        if !tokens.sees_sign(Sign::Comma) {
             return Ok(rows);
         }
-        tokens.expect(Kind::Comma)?;
+        tokens.expect_sign(Sign::Comma)?;
         rows.push(row(alloc, tokens)?)?;
     }
     Ok(rows)
@@ -72,8 +72,8 @@ fn row_list(alloc: Global, tokens: &mut Cursor<'_>) -> Result<CellRows, Stop>
 fn item(alloc: Global, tokens: &mut Cursor<'_>) -> Result<Item, Stop>
     ensures { Reads (read spec.item tokens.old.rest.now) result tokens.new.rest.now }
 {
-    if tokens.sees(Kind::RowId) {
-        tokens.expect(Kind::RowId)?;
+    if tokens.sees(Keyword::RowId) {
+        tokens.expect(Keyword::RowId)?;
         Ok(Item::RowId)
     } else {
         Ok(Item::Column {
@@ -82,17 +82,17 @@ fn item(alloc: Global, tokens: &mut Cursor<'_>) -> Result<Item, Stop>
     }
 }
 
-#[tactic(auto, using(token_grammar::proofs::ListSteps::list_steps))]
+#[tactic(auto, using(stmt_grammar::proofs::ListSteps::list_steps))]
 fn items(alloc: Global, tokens: &mut Cursor<'_>) -> Result<ItemList, Stop>
     ensures { Reads (read (phrases.list spec.item) tokens.old.rest.now) result tokens.new.rest.now }
 {
     let mut items = Listed::new(alloc);
     items.push(item(alloc, tokens)?)?;
     for _turn in 0..tokens.rest.len() {
-        if !tokens.sees(Kind::Comma) {
+        if !tokens.sees_sign(Sign::Comma) {
             return Ok(items);
         }
-        tokens.expect(Kind::Comma)?;
+        tokens.expect_sign(Sign::Comma)?;
         items.push(item(alloc, tokens)?)?;
     }
     Ok(items)
@@ -102,8 +102,8 @@ fn items(alloc: Global, tokens: &mut Cursor<'_>) -> Result<ItemList, Stop>
 fn shown(alloc: Global, tokens: &mut Cursor<'_>) -> Result<ItemList, Stop>
     ensures { Reads (read spec.shown tokens.old.rest.now) result tokens.new.rest.now }
 {
-    if tokens.sees(Kind::Star) {
-        tokens.expect(Kind::Star)?;
+    if tokens.sees_sign(Sign::Star) {
+        tokens.expect_sign(Sign::Star)?;
         Ok(Listed::new(alloc))
     } else {
         let items = items(alloc, tokens)?;
@@ -115,8 +115,8 @@ fn shown(alloc: Global, tokens: &mut Cursor<'_>) -> Result<ItemList, Stop>
 fn where_part(alloc: Global, tokens: &mut Cursor<'_>) -> Result<Option<Pred>, Stop>
     ensures { Reads (read spec.where_ tokens.old.rest.now) result tokens.new.rest.now }
 {
-    if tokens.sees(Kind::Where) {
-        tokens.expect(Kind::Where)?;
+    if tokens.sees(Keyword::Where) {
+        tokens.expect(Keyword::Where)?;
         Ok(Some(condition(alloc, tokens)?))
     } else {
         Ok(None)
@@ -128,22 +128,22 @@ fn assignment(alloc: Global, tokens: &mut Cursor<'_>) -> Result<(Words, Value), 
     ensures { Reads (read spec.assignment tokens.old.rest.now) result tokens.new.rest.now }
 {
     let name = name(alloc, tokens)?;
-    tokens.expect(Kind::Eq)?;
+    tokens.expect_sign(Sign::Eq)?;
     let value = literal(alloc, tokens)?;
     Ok((name, value))
 }
 
-#[tactic(auto, using(token_grammar::proofs::ListSteps::list_steps))]
+#[tactic(auto, using(stmt_grammar::proofs::ListSteps::list_steps))]
 fn assignments(alloc: Global, tokens: &mut Cursor<'_>) -> Result<Assignments, Stop>
     ensures { Reads (read (phrases.list spec.assignment) tokens.old.rest.now) result tokens.new.rest.now }
 {
     let mut set = Listed::new(alloc);
     set.push(assignment(alloc, tokens)?)?;
     for _turn in 0..tokens.rest.len() {
-        if !tokens.sees(Kind::Comma) {
+        if !tokens.sees_sign(Sign::Comma) {
             return Ok(set);
         }
-        tokens.expect(Kind::Comma)?;
+        tokens.expect_sign(Sign::Comma)?;
         set.push(assignment(alloc, tokens)?)?;
     }
     Ok(set)
@@ -153,9 +153,9 @@ fn assignments(alloc: Global, tokens: &mut Cursor<'_>) -> Result<Assignments, St
 fn insert(alloc: Global, tokens: &mut Cursor<'_>) -> Result<Stmt, Stop>
     ensures { Reads (read spec.insert tokens.old.rest.now) result tokens.new.rest.now }
 {
-    tokens.expect(Kind::Into)?;
+    tokens.expect(Keyword::Into)?;
     let table = table(alloc, tokens)?;
-    tokens.expect(Kind::Values)?;
+    tokens.expect(Keyword::Values)?;
     let rows = row_list(alloc, tokens)?;
     Ok(Stmt::Insert { table, rows })
 }
@@ -164,7 +164,7 @@ fn insert(alloc: Global, tokens: &mut Cursor<'_>) -> Result<Stmt, Stop>
 fn delete(alloc: Global, tokens: &mut Cursor<'_>) -> Result<Stmt, Stop>
     ensures { Reads (read spec.delete tokens.old.rest.now) result tokens.new.rest.now }
 {
-    tokens.expect(Kind::From)?;
+    tokens.expect(Keyword::From)?;
     let table = table(alloc, tokens)?;
     let pred = where_part(alloc, tokens)?;
     Ok(Stmt::Delete { table, pred })
@@ -175,7 +175,7 @@ fn update(alloc: Global, tokens: &mut Cursor<'_>) -> Result<Stmt, Stop>
     ensures { Reads (read spec.update tokens.old.rest.now) result tokens.new.rest.now }
 {
     let table = table(alloc, tokens)?;
-    tokens.expect(Kind::Set)?;
+    tokens.expect(Keyword::Set)?;
     let set = assignments(alloc, tokens)?;
     let pred = where_part(alloc, tokens)?;
     Ok(Stmt::Update { table, set, pred })
@@ -186,7 +186,7 @@ fn select(alloc: Global, tokens: &mut Cursor<'_>) -> Result<Stmt, Stop>
     ensures { Reads (read spec.select tokens.old.rest.now) result tokens.new.rest.now }
 {
     let items = shown(alloc, tokens)?;
-    tokens.expect(Kind::From)?;
+    tokens.expect(Keyword::From)?;
     let table = table(alloc, tokens)?;
     let pred = where_part(alloc, tokens)?;
     Ok(Stmt::Select { table, items, pred })
@@ -197,10 +197,10 @@ fn select(alloc: Global, tokens: &mut Cursor<'_>) -> Result<Stmt, Stop>
 pub fn opens_rows(tokens: &Cursor<'_>) -> bool
     ensures { result ≡ starts (first spec.rows) tokens.now.rest.now }
 {
-    tokens.sees(Kind::Insert)
-        || tokens.sees(Kind::Delete)
-        || tokens.sees(Kind::Update)
-        || tokens.sees(Kind::Select)
+    tokens.sees(Keyword::Insert)
+        || tokens.sees(Keyword::Delete)
+        || tokens.sees(Keyword::Update)
+        || tokens.sees(Keyword::Select)
 }
 
 /// A statement on rows.
@@ -208,18 +208,18 @@ pub fn opens_rows(tokens: &Cursor<'_>) -> bool
 pub fn rows(alloc: Global, tokens: &mut Cursor<'_>) -> Result<Stmt, Stop>
     ensures { Reads (read spec.rows tokens.old.rest.now) result tokens.new.rest.now }
 {
-    if tokens.sees(Kind::Insert) {
-        tokens.expect(Kind::Insert)?;
+    if tokens.sees(Keyword::Insert) {
+        tokens.expect(Keyword::Insert)?;
         return insert(alloc, tokens);
     }
-    if tokens.sees(Kind::Delete) {
-        tokens.expect(Kind::Delete)?;
+    if tokens.sees(Keyword::Delete) {
+        tokens.expect(Keyword::Delete)?;
         return delete(alloc, tokens);
     }
-    if tokens.sees(Kind::Update) {
-        tokens.expect(Kind::Update)?;
+    if tokens.sees(Keyword::Update) {
+        tokens.expect(Keyword::Update)?;
         return update(alloc, tokens);
     }
-    tokens.expect(Kind::Select)?;
+    tokens.expect(Keyword::Select)?;
     select(alloc, tokens)
 }

@@ -1,26 +1,26 @@
 ghost use Rattle.std.specs.Prelude.{◌≡◌};
 ghost use Rattle.stmt_reader.specs.Rules as spec;
-ghost use Rattle.token_grammar.specs.Grammar.{first, read, starts};
-ghost use Rattle.token_grammar.specs.Reads.{Reads};
+ghost use Rattle.stmt_grammar.specs.Grammar.{first, read, starts};
+ghost use Rattle.stmt_grammar.specs.Reads.{Reads};
 
 use crate::definition::{definition, opens_definition};
 use crate::names::table;
 use crate::numbers::count_of;
 use crate::rows::{opens_rows, rows};
 use lake_types::Stmt;
-use line_tokens::Kind;
 use std::alloc::Global;
-use token_grammar::{Cursor, Stop};
+use stmt_grammar::{Cursor, Stop};
+use stmt_tokens::{Keyword, Kind, Sign};
 
 /// The number of a version.
-#[tactic(auto, unfolding(token_grammar::specs::Phrases::is))]
+#[tactic(auto, unfolding(stmt_grammar::specs::Phrases::is))]
 fn count(tokens: &mut Cursor<'_>) -> Result<u64, Stop>
     ensures { Reads (read spec.count tokens.old.rest.now) result tokens.new.rest.now }
 {
     let [token, more @ ..] = tokens.rest else {
         return Err(Stop::Wrong);
     };
-    if token.kind != Kind::Number {
+    if !matches!(token.kind, Kind::Number) {
         return Err(Stop::Wrong);
     }
     match count_of(token.text.as_str().as_bytes()) {
@@ -36,12 +36,12 @@ fn count(tokens: &mut Cursor<'_>) -> Result<u64, Stop>
 fn begin_at(tokens: &mut Cursor<'_>) -> Result<u64, Stop>
     ensures { Reads (read spec.begin_at tokens.old.rest.now) result tokens.new.rest.now }
 {
-    tokens.expect(Kind::At)?;
-    tokens.expect(Kind::LeftParen)?;
-    tokens.expect(Kind::Version)?;
-    tokens.expect(Kind::Arrow)?;
+    tokens.expect(Keyword::At)?;
+    tokens.expect_sign(Sign::LeftParen)?;
+    tokens.expect(Keyword::Version)?;
+    tokens.expect_sign(Sign::Arrow)?;
     let n = count(tokens)?;
-    tokens.expect(Kind::RightParen)?;
+    tokens.expect_sign(Sign::RightParen)?;
     Ok(n)
 }
 
@@ -49,7 +49,7 @@ fn begin_at(tokens: &mut Cursor<'_>) -> Result<u64, Stop>
 fn begin(tokens: &mut Cursor<'_>) -> Result<Stmt, Stop>
     ensures { Reads (read spec.begin tokens.old.rest.now) result tokens.new.rest.now }
 {
-    if tokens.sees(Kind::At) {
+    if tokens.sees(Keyword::At) {
         let n = begin_at(tokens)?;
         Ok(Stmt::BeginAt { n })
     } else {
@@ -61,22 +61,22 @@ fn begin(tokens: &mut Cursor<'_>) -> Result<Stmt, Stop>
 fn opens_transaction(tokens: &Cursor<'_>) -> bool
     ensures { result ≡ starts (first spec.transaction) tokens.now.rest.now }
 {
-    tokens.sees(Kind::Begin) || tokens.sees(Kind::Commit) || tokens.sees(Kind::Rollback)
+    tokens.sees(Keyword::Begin) || tokens.sees(Keyword::Commit) || tokens.sees(Keyword::Rollback)
 }
 
 #[tactic(auto, unfolding(crate::specs::Rules::transaction))]
 fn transaction(tokens: &mut Cursor<'_>) -> Result<Stmt, Stop>
     ensures { Reads (read spec.transaction tokens.old.rest.now) result tokens.new.rest.now }
 {
-    if tokens.sees(Kind::Begin) {
-        tokens.expect(Kind::Begin)?;
+    if tokens.sees(Keyword::Begin) {
+        tokens.expect(Keyword::Begin)?;
         return begin(tokens);
     }
-    if tokens.sees(Kind::Commit) {
-        tokens.expect(Kind::Commit)?;
+    if tokens.sees(Keyword::Commit) {
+        tokens.expect(Keyword::Commit)?;
         return Ok(Stmt::Commit);
     }
-    tokens.expect(Kind::Rollback)?;
+    tokens.expect(Keyword::Rollback)?;
     Ok(Stmt::Rollback)
 }
 
@@ -84,27 +84,27 @@ fn transaction(tokens: &mut Cursor<'_>) -> Result<Stmt, Stop>
 fn upkeep(alloc: Global, tokens: &mut Cursor<'_>) -> Result<Stmt, Stop>
     ensures { Reads (read spec.upkeep tokens.old.rest.now) result tokens.new.rest.now }
 {
-    if tokens.sees(Kind::Compact) {
-        tokens.expect(Kind::Compact)?;
+    if tokens.sees(Keyword::Compact) {
+        tokens.expect(Keyword::Compact)?;
         return Ok(Stmt::Compact {
             table: table(alloc, tokens)?,
         });
     }
-    if tokens.sees(Kind::Flush) {
-        tokens.expect(Kind::Flush)?;
+    if tokens.sees(Keyword::Flush) {
+        tokens.expect(Keyword::Flush)?;
         return Ok(Stmt::Flush {
             table: table(alloc, tokens)?,
         });
     }
-    if tokens.sees(Kind::Expire) {
-        tokens.expect(Kind::Expire)?;
+    if tokens.sees(Keyword::Expire) {
+        tokens.expect(Keyword::Expire)?;
         return Ok(Stmt::Expire { n: count(tokens)? });
     }
-    if tokens.sees(Kind::Clean) {
-        tokens.expect(Kind::Clean)?;
+    if tokens.sees(Keyword::Clean) {
+        tokens.expect(Keyword::Clean)?;
         return Ok(Stmt::Clean);
     }
-    tokens.expect(Kind::Snapshots)?;
+    tokens.expect(Keyword::Snapshots)?;
     Ok(Stmt::Snapshots)
 }
 

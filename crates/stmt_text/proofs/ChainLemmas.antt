@@ -1,7 +1,7 @@
 -- The parts of a chain that are still to be put.
 use Rattle.std.proofs.Common.{Bool, true, false, List}
-use Rattle.line_tokens.specs.declared.token.Kind.{Kind}
-use Rattle.line_tokens.specs.declared.token.Token.{Token}
+use Rattle.stmt_tokens.specs.declared.token.Kind.{Kind}
+use Rattle.stmt_tokens.specs.declared.token.Token.{Token}
 use Rattle.stmt_text.specs.Printed.{Shown, chain_tokens, others}
 
 -- behind the first part each has a word before it

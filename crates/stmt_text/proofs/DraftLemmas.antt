@@ -8,15 +8,12 @@ use Rattle.std.specs.Str.{IsUtf8}
 use Rattle.std.proofs.lemmas.Str.{is_utf8-from_IsUtf8}
 use Rattle.std.proofs.lemmas.List.Folds.{list_all-append}
 use Rattle.hex.specs.Hex.{IsBytes, encode_lower, encode_with, lower_digits}
-use Rattle.line_tokens.specs.Tokens.{is_hex, the_word}
-use Rattle.line_tokens.specs.declared.token.Kind.{Kind}
-use Rattle.line_tokens.specs.declared.token.Kind.TheVariants as k
-use Rattle.line_tokens.specs.declared.token.Token.{Token}
-use Rattle.token_text.specs.Laws.{token_of}
+use Rattle.stmt_tokens.specs.Tokens.{is_hex}
+use Rattle.stmt_tokens.specs.declared.token.Kind.{Kind}
+use Rattle.stmt_tokens.specs.declared.token.Kind.TheVariants as k
+use Rattle.stmt_tokens.specs.declared.token.Token.{Token}
+use Rattle.stmt_tokens.specs.Laws.{token_of}
 use Rattle.stmt_text.specs.Printed.{has_digits, is_typed}
-
-pub word_digits : (a : Kind) → has_digits a (the_word a) ≡ true
-word_digits = elim [ k.And ↦ refl | _ ↦ refl ]
 
 -- a digit of the table is a digit
 abbrev all_hex : ℕ → Bool
@@ -42,7 +39,7 @@ bytes_digits (b ∷ rest) h =
     let fits : b < 256 = h 0 in
     rw (digit_hex (b / 16) (omega arith)) (rw (digit_hex (b % 16) (omega arith)) (bytes_digits rest (λ i. h (suc i))))
 
-pub ruleset typed = (word_digits, bytes_digits)
+pub ruleset typed = (bytes_digits)
 
 pub pushed : (ts : List Token) (a : Kind) (text : List ℕ) → list_all is_typed ts ≡ true → IsUtf8 text → has_digits a text ≡ true → list_all is_typed (ts ++ token_of a text ∷ []) ≡ true
 pushed ts a text h u d = list_all-append is_typed ts (token_of a text ∷ []) ∙ rw h (rw (is_utf8-from_IsUtf8 text u) (rw d refl))

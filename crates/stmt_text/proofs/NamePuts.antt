@@ -13,15 +13,17 @@ use Rattle.lake_types.specs.declared.value.Value.{Value}
 use Rattle.lake_types.specs.declared.value.Value.TheVariants as value
 use Rattle.lake_types.specs.declared.stmt.TableName.{TableName}
 use Rattle.lake_types.specs.declared.stmt.ColumnDef.{ColumnDef}
-use Rattle.line_tokens.specs.Tokens.{is_hex}
-use Rattle.line_tokens.specs.declared.token.Kind.TheVariants as k
-use Rattle.line_tokens.specs.declared.token.Token.{Token}
-use Rattle.token_grammar.specs.Grammar.{maybe}
-use Rattle.token_grammar.specs.Phrases.{is, word, ◌then◌}
-use Rattle.token_text.proofs.CutLemmas.{cut_bytes, cut_name, cut_text}
-use Rattle.token_text.proofs.FixedLemmas.{cut_fixed}
-use Rattle.token_text.specs.Laws.{token_of}
-use Rattle.token_text.specs.Spelled.{fixed, IsCut}
+use Rattle.stmt_tokens.specs.Tokens.{is_hex}
+use Rattle.stmt_tokens.specs.declared.token.Keyword.TheVariants as words
+use Rattle.stmt_tokens.specs.declared.token.Kind.TheVariants as k
+use Rattle.stmt_tokens.specs.declared.token.Sign.TheVariants as signs
+use Rattle.stmt_tokens.specs.declared.token.Token.{Token}
+use Rattle.stmt_grammar.specs.Grammar.{maybe}
+use Rattle.stmt_grammar.specs.Phrases.{is, word, mark, ◌then◌}
+use Rattle.stmt_tokens.proofs.CutLemmas.{cut_bytes, cut_name, cut_text}
+use Rattle.stmt_tokens.proofs.FixedLemmas.{cut_fixed}
+use Rattle.stmt_tokens.specs.Laws.{token_of}
+use Rattle.stmt_tokens.specs.Spelled.{fixed, IsCut}
 use Rattle.stmt_reader.proofs.DateLemmas.{day_found}
 use Rattle.stmt_reader.specs.Rules.{column, column_type, count, day_of, default_value, literal, name, nulls, session, table}
 use Rattle.stmt_text.proofs.Puts.{Put, AllTyped, typed_parts, put_word, put_next, put_then}
@@ -42,8 +44,8 @@ unfolding table
 put_table t h typed =
     let p = and_parts (is_name t.schema) (is_name t.table) h in
     let schema = put_name t.schema p.0 (typed.0, tt) in
-    let rest = put_next k.Dot name (name_tokens t.table) t.table refl (put_name t.table p.1 (typed.1.1.0, tt)) in
-    let all = put_then name (maybe (word k.Dot then name)) (name_tokens t.schema) (fixed k.Dot ∷ name_tokens t.table) t.schema (Some (tt, t.table)) schema rest in
+    let rest = put_next (k.Sign signs.Dot) name (name_tokens t.table) t.table refl (put_name t.table p.1 (typed.1.1.0, tt)) in
+    let all = put_then name (maybe (mark signs.Dot then name)) (name_tokens t.schema) (fixed (k.Sign signs.Dot) ∷ name_tokens t.table) t.schema (Some (tt, t.table)) schema rest in
     (((t.schema, Some (tt, t.table)), all.0, refl), all.1)
 
 -- ---- numbers
@@ -67,9 +69,9 @@ day_read d h = rw h (ap (option_map value.Date) (day_found d (day_text d) h refl
 
 pub put_literal : (v : Value) → is_literal v ≡ true → AllTyped (literal_tokens v) → Put literal (literal_tokens v) v
 unfolding literal is
-put_literal value.Null h t = (inr (inr (inr (inr (fixed k.Null, refl, refl, refl)))), (cut_fixed k.Null refl, tt))
-put_literal (value.Bool true) h t = (inr (inr (inr (inr (fixed k.True, refl, refl, refl)))), (cut_fixed k.True refl, tt))
-put_literal (value.Bool false) h t = (inr (inr (inr (inr (fixed k.False, refl, refl, refl)))), (cut_fixed k.False refl, tt))
+put_literal value.Null h t = (inr (inr (inr (inr (fixed (k.Keyword words.Null), refl, refl, refl)))), (cut_fixed (k.Keyword words.Null) refl, tt))
+put_literal (value.Bool true) h t = (inr (inr (inr (inr (fixed (k.Keyword words.True), refl, refl, refl)))), (cut_fixed (k.Keyword words.True) refl, tt))
+put_literal (value.Bool false) h t = (inr (inr (inr (inr (fixed (k.Keyword words.False), refl, refl, refl)))), (cut_fixed (k.Keyword words.False) refl, tt))
 put_literal (value.Int n) h t =
     let u = t.0 in
     (inl (token_of k.Number (signed_decimal n), refl, refl, ap (option_map value.Int) (read_integer n h)), (cut_integer n h (text_of (token_of k.Number (signed_decimal n)) u), tt))
@@ -80,35 +82,35 @@ put_literal (value.Bytes bytes) h t =
       (cut_bytes (encode_lower bytes) p.1 (even_digits bytes) p.0, tt),
     )
 put_literal (value.Date d) h t = (
-  inr (inr (inr (inl ((tt, value.Date d), (fixed k.Date ∷ [], token_of k.Text (day_words d) ∷ [], refl, (fixed k.Date, refl, refl), (token_of k.Text (day_words d), refl, refl, day_read d h)), refl)))),
-  (cut_fixed k.Date refl, (cut_text (day_words d) (text_of (token_of k.Text (day_words d)) t.1.0), tt)),
+  inr (inr (inr (inl ((tt, value.Date d), (fixed (k.Keyword words.Date) ∷ [], token_of k.Text (day_words d) ∷ [], refl, (fixed (k.Keyword words.Date), refl, refl), (token_of k.Text (day_words d), refl, refl, day_read d h)), refl)))),
+  (cut_fixed (k.Keyword words.Date) refl, (cut_text (day_words d) (text_of (token_of k.Text (day_words d)) t.1.0), tt)),
 )
 
 -- ---- columns
 
 pub put_type : (t : ColType) → Put column_type (type_tokens t) t
 unfolding column_type
-put_type ty.Bool = ((fixed k.Boolean, refl, refl, refl), (cut_fixed k.Boolean refl, tt))
-put_type ty.Int8 = ((fixed k.TinyInt, refl, refl, refl), (cut_fixed k.TinyInt refl, tt))
-put_type ty.Int16 = ((fixed k.SmallInt, refl, refl, refl), (cut_fixed k.SmallInt refl, tt))
-put_type ty.Int32 = ((fixed k.Integer, refl, refl, refl), (cut_fixed k.Integer refl, tt))
-put_type ty.Int64 = ((fixed k.BigInt, refl, refl, refl), (cut_fixed k.BigInt refl, tt))
-put_type ty.Varchar = ((fixed k.Varchar, refl, refl, refl), (cut_fixed k.Varchar refl, tt))
-put_type ty.Blob = ((fixed k.Blob, refl, refl, refl), (cut_fixed k.Blob refl, tt))
-put_type ty.Date = ((fixed k.Date, refl, refl, refl), (cut_fixed k.Date refl, tt))
+put_type ty.Bool = ((fixed (k.Keyword words.Boolean), refl, refl, refl), (cut_fixed (k.Keyword words.Boolean) refl, tt))
+put_type ty.Int8 = ((fixed (k.Keyword words.TinyInt), refl, refl, refl), (cut_fixed (k.Keyword words.TinyInt) refl, tt))
+put_type ty.Int16 = ((fixed (k.Keyword words.SmallInt), refl, refl, refl), (cut_fixed (k.Keyword words.SmallInt) refl, tt))
+put_type ty.Int32 = ((fixed (k.Keyword words.Integer), refl, refl, refl), (cut_fixed (k.Keyword words.Integer) refl, tt))
+put_type ty.Int64 = ((fixed (k.Keyword words.BigInt), refl, refl, refl), (cut_fixed (k.Keyword words.BigInt) refl, tt))
+put_type ty.Varchar = ((fixed (k.Keyword words.Varchar), refl, refl, refl), (cut_fixed (k.Keyword words.Varchar) refl, tt))
+put_type ty.Blob = ((fixed (k.Keyword words.Blob), refl, refl, refl), (cut_fixed (k.Keyword words.Blob) refl, tt))
+put_type ty.Date = ((fixed (k.Keyword words.Date), refl, refl, refl), (cut_fixed (k.Keyword words.Date) refl, tt))
 
 put_nulls : (b : Bool) → Put nulls (nulls_tokens b) b
 unfolding nulls
 put_nulls true = ((None, refl, refl), tt)
 put_nulls false =
-    let p = put_next k.Not (word k.Null) (fixed k.Null ∷ []) tt refl (put_word k.Null refl) in
+    let p = put_next (k.Keyword words.Not) (word words.Null) (fixed (k.Keyword words.Null) ∷ []) tt refl (put_word (k.Keyword words.Null) refl) in
     ((Some (tt, tt), p.0, refl), p.1)
 
 pub put_default : (o : Option Value) → is_default o ≡ true → AllTyped (default_tokens o) → Put default_value (default_tokens o) o
 unfolding default_value
 put_default None h t = ((None, refl, refl), tt)
 put_default (Some v) h t =
-    let p = put_next k.Default literal (literal_tokens v) v refl (put_literal v h t.1) in
+    let p = put_next (k.Keyword words.Default) literal (literal_tokens v) v refl (put_literal v h t.1) in
     ((Some (tt, v), p.0, refl), p.1)
 
 pub put_column : (c : ColumnDef) → is_column c ≡ true → AllTyped (column_tokens c) → Put column (column_tokens c) c

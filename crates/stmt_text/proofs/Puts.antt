@@ -2,14 +2,16 @@
 use Rattle.std.proofs.Common.{◌≡◌, true, List, [], ◌∷◌, ◌++◌, map, refl, ap, sym}
 use Rattle.std.proofs.lemmas.Bool.{and_parts}
 use Rattle.std.specs.List.{list_all}
-use Rattle.line_tokens.specs.declared.token.Kind.{Kind}
-use Rattle.line_tokens.specs.declared.token.Kind.TheVariants as k
-use Rattle.line_tokens.specs.declared.token.Token.{Token}
-use Rattle.token_grammar.specs.Grammar.{Grammar, Spells, SpellsAll}
-use Rattle.token_grammar.specs.Phrases.{is, word, ◌then◌, chain, parenthesized}
-use Rattle.token_text.proofs.CutLemmas.{append_cut}
-use Rattle.token_text.proofs.FixedLemmas.{cut_fixed}
-use Rattle.token_text.specs.Spelled.{AllCut, fixed, is_fixed}
+use Rattle.stmt_tokens.specs.declared.token.Kind.{Kind}
+use Rattle.stmt_tokens.specs.declared.token.Keyword.TheVariants as words
+use Rattle.stmt_tokens.specs.declared.token.Kind.TheVariants as k
+use Rattle.stmt_tokens.specs.declared.token.Sign.TheVariants as signs
+use Rattle.stmt_tokens.specs.declared.token.Token.{Token}
+use Rattle.stmt_grammar.specs.Grammar.{Grammar, Spells, SpellsAll}
+use Rattle.stmt_grammar.specs.Phrases.{is, mark, only, ◌then◌, chain, parenthesized}
+use Rattle.stmt_tokens.proofs.CutLemmas.{append_cut}
+use Rattle.stmt_tokens.proofs.FixedLemmas.{cut_fixed, is_fixed}
+use Rattle.stmt_tokens.specs.Spelled.{AllCut, fixed}
 use Rattle.stmt_text.specs.Printed.{enclosed, is_typed, joined, others}
 
 abbrev pub Put : {A : Type 0} → Grammar A → List Token → A → Type 0
@@ -33,13 +35,13 @@ typed_parts (t ∷ a) b h = let p = typed_parts a b h.1 in ((h.0, p.0), p.1)
 
 same : (a : Kind) → is a a ≡ true
 unfolding is
-same = elim [ k.And ↦ refl | _ ↦ refl ]
+same = elim [ k.Keyword words.And ↦ refl | k.Sign signs.Comma ↦ refl | _ ↦ refl ]
 
-pub put_word : (a : Kind) → is_fixed a ≡ true → Put (word a) (fixed a ∷ []) tt
+pub put_word : (a : Kind) → is_fixed a ≡ true → Put (only a) (fixed a ∷ []) tt
 put_word a h = ((fixed a, refl, same a), (cut_fixed a h, tt))
 
 -- a keyword or a sign, and what follows
-pub put_next : {B : Type 0} (a : Kind) (h : Grammar B) (ts : List Token) (y : B) → is_fixed a ≡ true → Put h ts y → Put (word a then h) (fixed a ∷ ts) (tt, y)
+pub put_next : {B : Type 0} (a : Kind) (h : Grammar B) (ts : List Token) (y : B) → is_fixed a ≡ true → Put h ts y → Put (only a then h) (fixed a ∷ ts) (tt, y)
 put_next a h ts y f p = ((fixed a ∷ [], ts, refl, (fixed a, refl, same a), p.0), (cut_fixed a f, p.1))
 
 pub put_then : {A B : Type 0} (g : Grammar A) (h : Grammar B) (a b : List Token) (x : A) (y : B) → Put g a x → Put h b y → Put (g then h) (a ++ b) (x, y)
@@ -47,8 +49,8 @@ put_then g h a b x y p q = ((a, b, refl, p.0, q.0), append_cut a b p.1 q.1)
 
 pub put_enclosed : {A : Type 0} (g : Grammar A) (ts : List Token) (x : A) → Put g ts x → Put (parenthesized g) (enclosed ts) x
 put_enclosed g ts x p =
-    let q = put_next k.LeftParen (g then word k.RightParen) (ts ++ fixed k.RightParen ∷ []) (x, tt) refl
-    (put_then g (word k.RightParen) ts (fixed k.RightParen ∷ []) x tt p (put_word k.RightParen refl)) in
+    let q = put_next (k.Sign signs.LeftParen) (g then mark signs.RightParen) (ts ++ fixed (k.Sign signs.RightParen) ∷ []) (x, tt) refl
+    (put_then g (mark signs.RightParen) ts (fixed (k.Sign signs.RightParen) ∷ []) x tt p (put_word (k.Sign signs.RightParen) refl)) in
     (((tt, (x, tt)), q.0, refl), q.1)
 
 -- ---- lists
@@ -73,7 +75,7 @@ module _ {A B : Type 0} (sep : Kind) (h : is_fixed sep ≡ true) (g : Grammar A)
   untagged [] = refl
   untagged (x ∷ xs) = ap (λ ys. x ∷ ys) (untagged xs)
 
-  others_put : (bs : List B) (xs : List A) → Items bs xs → SpellsAll (Spells (word sep then g)) (others sep item bs) (tagged xs) × AllCut (others sep item bs)
+  others_put : (bs : List B) (xs : List A) → Items bs xs → SpellsAll (Spells (only sep then g)) (others sep item bs) (tagged xs) × AllCut (others sep item bs)
   others_put [] [] p = (refl, tt)
   others_put [] (x ∷ xs) p = absurd p
   others_put (b ∷ bs) [] p = absurd p

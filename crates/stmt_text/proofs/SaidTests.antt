@@ -3,7 +3,7 @@ use Rattle.std.proofs.Common.{◌≡◌, ◌==◌, ℕ, zero, suc, ◌+◌, ◌^
 use Rattle.std.specs.Prelude.{nat_le, nat_lt, option_map, is_some}
 use Rattle.std.specs.List.{list_all}
 use Rattle.std.specs.Str.{bytes_eq}
-use Rattle.std.proofs.lemmas.Bool.{and_parts}
+use Rattle.std.proofs.lemmas.Bool.{and_from, and_parts}
 use Rattle.std.proofs.lemmas.Int.{ints}
 use Rattle.lake_types.specs.Calendar.{is_day, day_text}
 use Rattle.lake_types.specs.Fits.{fits}
@@ -17,15 +17,18 @@ use Rattle.lake_types.specs.declared.pred.Pred.TheVariants.{rolls-Compare, rolls
 use Rattle.lake_types.specs.declared.pred.Pred.TheOpen.{Pred-F}
 use Rattle.lake_types.specs.declared.pred.Pred.TheViews.{roll-Pred}
 use Rattle.lake_types.specs.declared.pred.Pred.TheFolds.{fold-roll-Pred}
-use Rattle.line_tokens.specs.declared.token.Kind.{Kind}
-use Rattle.line_tokens.specs.declared.token.Kind.TheVariants as k
-use Rattle.line_tokens.specs.declared.token.Token.{Token}
-use Rattle.token_grammar.specs.Grammar.{Grammar, maybe, made}
-use Rattle.token_grammar.specs.Phrases.{is, word, ◌then◌, ◌or◌, chain, parenthesized}
+use Rattle.stmt_tokens.specs.declared.token.Kind.{Kind}
+use Rattle.stmt_tokens.specs.declared.token.Keyword.TheVariants as words
+use Rattle.stmt_tokens.specs.declared.token.Kind.TheVariants as k
+use Rattle.stmt_tokens.specs.declared.token.Sign.TheVariants as signs
+use Rattle.stmt_tokens.specs.declared.token.Token.{Token}
+use Rattle.stmt_grammar.specs.Grammar.{Grammar, maybe, made}
+use Rattle.stmt_grammar.specs.Phrases.{is, word, mark, ◌then◌, ◌or◌, chain, parenthesized}
+use Rattle.stmt_reader.proofs.DateLemmas.{in_calendar}
 use Rattle.stmt_reader.specs.Dates.{day_among, day_number}
 use Rattle.stmt_reader.specs.Rules as rules
 use Rattle.stmt_reader.specs.Values.{signed, integer_of, is_negative, magnitude, counted, count_of, numbered, session_of, unhex}
-use Rattle.stmt_text.proofs.Gives.{Gives, both_true, or_none, token_gives, both_gives, next_gives, either_gives, made_gives, maybe_gives, chain_gives, enclosed_gives}
+use Rattle.stmt_text.proofs.Gives.{Gives, or_none, token_gives, both_gives, next_gives, either_gives, made_gives, maybe_gives, chain_gives, enclosed_gives}
 use Rattle.stmt_text.specs.Printable.{is_name, is_table, is_literal, is_count, is_some_of, is_sound, is_sound_at, has_two, is_test, is_where}
 use Rattle.stmt_text.specs.Printed.{Shown, shown, shown_at, within, deepest}
 use Rattle.stmt_text.specs.declared.predicate.Shape.{Shape}
@@ -44,9 +47,9 @@ table_named first (Some z) h = h
 pub table_gives : Gives rules.table is_table
 unfolding rules.table
 table_gives =
-    made_gives (λ z. rules.table_of z.0 z.1) (rules.name then maybe (word k.Dot then rules.name)) (λ z. is_name z.0 && or_none (λ y. is_name y.1) z.1) is_table
-    (both_gives rules.name (maybe (word k.Dot then rules.name)) is_name (or_none (λ y. is_name y.1)) name_gives
-    (maybe_gives (word k.Dot then rules.name) (λ y. is_name y.1) (next_gives k.Dot rules.name is_name name_gives)))
+    made_gives (λ z. rules.table_of z.0 z.1) (rules.name then maybe (mark signs.Dot then rules.name)) (λ z. is_name z.0 && or_none (λ y. is_name y.1) z.1) is_table
+    (both_gives rules.name (maybe (mark signs.Dot then rules.name)) is_name (or_none (λ y. is_name y.1)) name_gives
+    (maybe_gives (mark signs.Dot then rules.name) (λ y. is_name y.1) (next_gives (k.Sign signs.Dot) rules.name is_name name_gives)))
     (λ z h. table_named z.0 z.1 h)
 
 -- ---- numbers
@@ -88,7 +91,7 @@ numbered_range negative n m h = pick (not negative && nat_le 1 n && nat_le n 16)
     pick true l e =
         let same : n ≡ m = cc in
         let p = and_parts (not negative && nat_le 1 n) (nat_le n 16) l in
-        subst (λ i. is_session i ≡ true) same (both_true (nat_le 1 n) (nat_le n 16) (and_parts (not negative) (nat_le 1 n) p.0).1 p.1)
+        subst (λ i. is_session i ≡ true) same (and_from (nat_le 1 n) (nat_le n 16) (and_parts (not negative) (nat_le 1 n) p.0).1 p.1)
     pick false l e = cc
 
 pub session_gives : Gives rules.session is_session
@@ -96,11 +99,8 @@ session_gives = token_gives (is k.Number) (λ t. session_of t.text) is_session (
 
 -- ---- values
 
-day_is : (n : ℕ) → n < 3652059 → is_day (day_number n) ≡ true
-day_is n l = grind (arith, ints)
-
 one_day : (t : Bool) (n : ℕ) (o : Option ℤ) (d : ℤ) → n < 3652059 → (o ≡ Some d → is_day d ≡ true) → cond t (Some (day_number n)) o ≡ Some d → is_day d ≡ true
-one_day true n o d l h e = let same : day_number n ≡ d = cc in subst (λ i. is_day i ≡ true) same (day_is n l)
+one_day true n o d l h e = let same : day_number n ≡ d = cc in subst (λ i. is_day i ≡ true) same (in_calendar n l)
 one_day false n o d l h e = h e
 
 day_in_range : (n : ℕ) (text : List ℕ) (d : ℤ) → n ≤ 3652059 → day_among n text ≡ Some d → is_day d ≡ true
@@ -130,19 +130,19 @@ unfolding rules.day_of
 day_gives = token_gives (is k.Text) (λ t. rules.day_of t.text) is_literal (λ t v f h e. some_day (day_among 3652059 t.text) v (λ d e. day_in_range 3652059 t.text d (omega arith) e) e)
 
 constant_fits : (a : Kind) (v : Value) → rules.constant_of a ≡ Some v → is_literal v ≡ true
-constant_fits k.Null v e = let same : value.Null ≡ v = cc in subst (λ x. is_literal x ≡ true) same refl
-constant_fits k.True v e = let same : value.Bool true ≡ v = cc in subst (λ x. is_literal x ≡ true) same refl
-constant_fits k.False v e = let same : value.Bool false ≡ v = cc in subst (λ x. is_literal x ≡ true) same refl
+constant_fits (k.Keyword words.Null) v e = let same : value.Null ≡ v = cc in subst (λ x. is_literal x ≡ true) same refl
+constant_fits (k.Keyword words.True) v e = let same : value.Bool true ≡ v = cc in subst (λ x. is_literal x ≡ true) same refl
+constant_fits (k.Keyword words.False) v e = let same : value.Bool false ≡ v = cc in subst (λ x. is_literal x ≡ true) same refl
 constant_fits _ v e = cc
 
 constant_gives : Gives rules.constant is_literal
 constant_gives = token_gives (λ a. is_some (rules.constant_of a)) (λ t. rules.constant_of t.kind) is_literal (λ t v f h e. constant_fits t.kind v e)
 
-dated : Gives (made (λ z. z.1) (word k.Date then rules.day)) is_literal
-dated = made_gives (λ z. z.1) (word k.Date then rules.day) (λ z. is_literal z.1) is_literal (next_gives k.Date rules.day is_literal day_gives) (λ z h. h)
+dated : Gives (made (λ z. z.1) (word words.Date then rules.day)) is_literal
+dated = made_gives (λ z. z.1) (word words.Date then rules.day) (λ z. is_literal z.1) is_literal (next_gives (k.Keyword words.Date) rules.day is_literal day_gives) (λ z h. h)
 
 abbrev a_day : Grammar Value
-a_day = made (λ z. z.1) (word k.Date then rules.day)
+a_day = made (λ z. z.1) (word words.Date then rules.day)
 
 pub literal_gives : Gives rules.literal is_literal
 unfolding rules.literal
@@ -188,11 +188,11 @@ no_level n = grind arith
 
 tested : (n : ℕ) (name : List ℕ) (z : Bool ⊎ (Op × Value)) → (is_name name && is_tested z) ≡ true → IsOne n (rules.test_of name z) ≡ true
 tested n name (inl true) h =
-    by_layer (one_within n) (Pred-F.NotNull name) (pred.NotNull name) (rolls-NotNull name) (both_true (is_name name) (nat_le 0 n) (and_parts (is_name name) true h).0 (no_level n))
+    by_layer (one_within n) (Pred-F.NotNull name) (pred.NotNull name) (rolls-NotNull name) (and_from (is_name name) (nat_le 0 n) (and_parts (is_name name) true h).0 (no_level n))
 tested n name (inl false) h =
-    by_layer (one_within n) (Pred-F.IsNull name) (pred.IsNull name) (rolls-IsNull name) (both_true (is_name name) (nat_le 0 n) (and_parts (is_name name) true h).0 (no_level n))
+    by_layer (one_within n) (Pred-F.IsNull name) (pred.IsNull name) (rolls-IsNull name) (and_from (is_name name) (nat_le 0 n) (and_parts (is_name name) true h).0 (no_level n))
 tested n name (inr z) h =
-    by_layer (one_within n) (Pred-F.Compare name z.0 z.1) (pred.Compare name z.0 z.1) (rolls-Compare name z.0 z.1) (both_true (is_name name && is_literal z.1) (nat_le 0 n) h (no_level n))
+    by_layer (one_within n) (Pred-F.Compare name z.0 z.1) (pred.Compare name z.0 z.1) (rolls-Compare name z.0 z.1) (and_from (is_name name && is_literal z.1) (nat_le 0 n) h (no_level n))
 
 pub anything : {A : Type 0} (g : Grammar A) → Gives g (λ x. true)
 anything g ts x f s = refl
@@ -230,7 +230,7 @@ levels a b sound n m f h =
     let p = and_parts sound (nat_le a n) h in
     let l : a ≤ n = grind (arith, p.1) in
     let r : b ≤ m = f l in
-    both_true sound (nat_le b m) p.0 (grind arith)
+    and_from sound (nat_le b m) p.0 (grind arith)
 
 one_as_all : (n : ℕ) (p : Pred) → IsOne n p ≡ true → IsAll n p ≡ true
 one_as_all n p h = levels (within shapes.One (shown p)).nesting (within shapes.All (shown p)).nesting (is_sound p) n n (closer_all (shown p).shape (shown p).tokens (shown p).nesting n) h
@@ -255,7 +255,7 @@ module _ (most : Shape) (n : ℕ) where
   each_sound [] h = refl
   each_sound (p ∷ ps) h =
       let parts = and_parts (IsPart p) (list_all IsPart ps) h in
-      both_true (is_sound p) (list_all (λ b. b) (map is_sound ps)) (and_parts (is_sound p) (nat_le (within most (shown p)).nesting n) parts.0).0 (each_sound ps parts.1)
+      and_from (is_sound p) (list_all (λ b. b) (map is_sound ps)) (and_parts (is_sound p) (nat_le (within most (shown p)).nesting n) parts.0).0 (each_sound ps parts.1)
 
   no_deeper : (ps : List Pred) (m : ℕ) → m ≤ n → list_all IsPart ps ≡ true → fold (λ i (s : Shown). max i s.nesting) m (map (within most) (map shown ps)) ≤ n
   no_deeper [] m l h = l
@@ -274,8 +274,8 @@ chain_sound : (most : Shape) (n : ℕ) (ps : List Pred) → has_two ps ≡ true 
     → ((has_two (map is_sound ps) && list_all (λ b. b) (map is_sound ps)) && nat_le (deepest (map (within most) (map shown ps))) n) ≡ true
 chain_sound most n ps two h =
     let deep : deepest (map (within most) (map shown ps)) ≤ n = no_deeper most n ps 0 (omega arith) h in
-    both_true (has_two (map is_sound ps) && list_all (λ b. b) (map is_sound ps)) (nat_le (deepest (map (within most) (map shown ps))) n)
-    (both_true (has_two (map is_sound ps)) (list_all (λ b. b) (map is_sound ps)) (sym (two_of ps) ∙ two) (each_sound most n ps h)) (grind arith)
+    and_from (has_two (map is_sound ps) && list_all (λ b. b) (map is_sound ps)) (nat_le (deepest (map (within most) (map shown ps))) n)
+    (and_from (has_two (map is_sound ps)) (list_all (λ b. b) (map is_sound ps)) (sym (two_of ps) ∙ two) (each_sound most n ps h)) (grind arith)
 
 all_chain : (n : ℕ) (ps : List Pred) → is_some_of (IsOne n) ps ≡ true → IsAll n (rules.and_of ps) ≡ true
 all_chain n [] h = cc
@@ -289,11 +289,11 @@ any_chain n (p ∷ q ∷ ps) h = by_layer (any_within n) (Pred-F.Or (p ∷ q ∷
 
 ands_give : (u : Grammar Pred) (n : ℕ) → Gives u (IsOne n) → Gives (rules.ands u) (IsAll n)
 unfolding rules.ands
-ands_give u n h = made_gives rules.and_of (chain k.And u) (is_some_of (IsOne n)) (IsAll n) (chain_gives k.And u (IsOne n) h) (all_chain n)
+ands_give u n h = made_gives rules.and_of (chain (k.Keyword words.And) u) (is_some_of (IsOne n)) (IsAll n) (chain_gives (k.Keyword words.And) u (IsOne n) h) (all_chain n)
 
 ors_give : (u : Grammar Pred) (n : ℕ) → Gives u (IsOne n) → Gives (rules.ors u) (IsAny n)
 unfolding rules.ors
-ors_give u n h = made_gives rules.or_of (chain k.Or (rules.ands u)) (is_some_of (IsAll n)) (IsAny n) (chain_gives k.Or (rules.ands u) (IsAll n) (ands_give u n h)) (any_chain n)
+ors_give u n h = made_gives rules.or_of (chain (k.Keyword words.Or) (rules.ands u)) (is_some_of (IsAll n)) (IsAny n) (chain_gives (k.Keyword words.Or) (rules.ands u) (IsAll n) (ands_give u n h)) (any_chain n)
 
 unary_gives : (n : ℕ) → Gives (rules.unary n) (IsOne n)
 unfolding rules.unary
@@ -301,8 +301,8 @@ unary_gives zero = test_gives 0
 unary_gives (suc n) =
     let deeper = unary_gives n in
     let inner : Grammar Pred = rules.ors (rules.unary n) in
-    either_gives (made (λ z. pred.Not z.1) (word k.Not then rules.unary n)) (parenthesized inner or rules.simple_test) (IsOne (suc n))
-    (made_gives (λ z. pred.Not z.1) (word k.Not then rules.unary n) (λ z. IsOne n z.1) (IsOne (suc n)) (next_gives k.Not (rules.unary n) (IsOne n) deeper) (λ z h. not_test n z.1 h))
+    either_gives (made (λ z. pred.Not z.1) (word words.Not then rules.unary n)) (parenthesized inner or rules.simple_test) (IsOne (suc n))
+    (made_gives (λ z. pred.Not z.1) (word words.Not then rules.unary n) (λ z. IsOne n z.1) (IsOne (suc n)) (next_gives (k.Keyword words.Not) (rules.unary n) (IsOne n) deeper) (λ z h. not_test n z.1 h))
     (either_gives (parenthesized inner) rules.simple_test (IsOne (suc n))
     (λ ts p f s. any_as_one n p (enclosed_gives inner (IsAny n) (ors_give (rules.unary n) n deeper) ts p f s))
     (test_gives (suc n)))
@@ -318,5 +318,5 @@ some_where (Some z) h = h
 pub where_gives : Gives rules.where_ is_where
 unfolding rules.where_
 where_gives =
-    made_gives (option_map (λ z. z.1)) (maybe (word k.Where then rules.condition)) (or_none (λ z. is_test z.1)) is_where
-    (maybe_gives (word k.Where then rules.condition) (λ z. is_test z.1) (next_gives k.Where rules.condition is_test condition_gives)) some_where
+    made_gives (option_map (λ z. z.1)) (maybe (word words.Where then rules.condition)) (or_none (λ z. is_test z.1)) is_where
+    (maybe_gives (word words.Where then rules.condition) (λ z. is_test z.1) (next_gives (k.Keyword words.Where) rules.condition is_test condition_gives)) some_where

@@ -12,81 +12,83 @@ use Rattle.lake_types.specs.declared.pred.Pred.TheVariants.{rolls-Compare, rolls
 use Rattle.lake_types.specs.declared.pred.Pred.TheOpen.{Pred-F}
 use Rattle.lake_types.specs.declared.pred.Pred.TheViews.{roll-Pred}
 use Rattle.lake_types.specs.declared.pred.Pred.TheFolds.{fold-roll-Pred, ind-Pred}
-use Rattle.line_tokens.specs.declared.token.Kind.{Kind}
-use Rattle.line_tokens.specs.declared.token.Kind.TheVariants as k
-use Rattle.line_tokens.specs.declared.token.Token.{Token}
-use Rattle.token_grammar.specs.Grammar.{Grammar}
-use Rattle.token_grammar.specs.Phrases.{is, word, ◌then◌, chain}
-use Rattle.token_text.proofs.CutLemmas.{append_cut}
-use Rattle.token_text.proofs.FixedLemmas.{cut_fixed}
-use Rattle.token_text.specs.Spelled.{fixed, is_fixed}
+use Rattle.stmt_tokens.specs.declared.token.Kind.{Kind}
+use Rattle.stmt_tokens.specs.declared.token.Keyword.TheVariants as words
+use Rattle.stmt_tokens.specs.declared.token.Kind.TheVariants as k
+use Rattle.stmt_tokens.specs.declared.token.Sign.TheVariants as signs
+use Rattle.stmt_tokens.specs.declared.token.Token.{Token}
+use Rattle.stmt_grammar.specs.Grammar.{Grammar}
+use Rattle.stmt_grammar.specs.Phrases.{is, word, ◌then◌, chain}
+use Rattle.stmt_tokens.proofs.CutLemmas.{append_cut}
+use Rattle.stmt_tokens.proofs.FixedLemmas.{cut_fixed, is_fixed}
+use Rattle.stmt_tokens.specs.Spelled.{fixed}
 use Rattle.stmt_reader.specs.Rules.{name, literal, operator, comparison, nullness, simple_test, ands, ors, unary, condition, where_, and_of, or_of}
 use Rattle.stmt_text.proofs.NamePuts.{put_name, put_literal}
 use Rattle.stmt_text.proofs.Puts.{Put, AllTyped, Pairs, typed_parts, put_word, put_next, put_then, put_enclosed, put_chain}
 use Rattle.stmt_text.specs.Printable.{is_name, is_literal, is_sound, is_sound_at, has_two, is_test, is_where}
-use Rattle.stmt_text.specs.Printed.{Shown, shown, shown_at, within, deepest, chain_tokens, enclosed, others, name_tokens, literal_tokens, op_kind, comparison_tokens, is_null_tokens, not_null_tokens, where_tokens}
+use Rattle.stmt_text.specs.Printed.{Shown, shown, shown_at, within, deepest, chain_tokens, enclosed, others, name_tokens, literal_tokens, op_sign, comparison_tokens, is_null_tokens, not_null_tokens, where_tokens}
 use Rattle.stmt_text.specs.declared.predicate.Shape.{Shape}
 use Rattle.stmt_text.specs.declared.predicate.Shape.TheVariants as shapes
 
 -- ---- single tests
 
-put_op : (o : Op) → Put operator (fixed (op_kind o) ∷ []) o
+put_op : (o : Op) → Put operator (fixed (k.Sign (op_sign o)) ∷ []) o
 unfolding operator
-put_op op.Eq = ((fixed k.Eq, refl, refl, refl), (cut_fixed k.Eq refl, tt))
-put_op op.Ne = ((fixed k.Ne, refl, refl, refl), (cut_fixed k.Ne refl, tt))
-put_op op.Lt = ((fixed k.Lt, refl, refl, refl), (cut_fixed k.Lt refl, tt))
-put_op op.Le = ((fixed k.Le, refl, refl, refl), (cut_fixed k.Le refl, tt))
-put_op op.Gt = ((fixed k.Gt, refl, refl, refl), (cut_fixed k.Gt refl, tt))
-put_op op.Ge = ((fixed k.Ge, refl, refl, refl), (cut_fixed k.Ge refl, tt))
+put_op op.Eq = ((fixed (k.Sign signs.Eq), refl, refl, refl), (cut_fixed (k.Sign signs.Eq) refl, tt))
+put_op op.Ne = ((fixed (k.Sign signs.Ne), refl, refl, refl), (cut_fixed (k.Sign signs.Ne) refl, tt))
+put_op op.Lt = ((fixed (k.Sign signs.Lt), refl, refl, refl), (cut_fixed (k.Sign signs.Lt) refl, tt))
+put_op op.Le = ((fixed (k.Sign signs.Le), refl, refl, refl), (cut_fixed (k.Sign signs.Le) refl, tt))
+put_op op.Gt = ((fixed (k.Sign signs.Gt), refl, refl, refl), (cut_fixed (k.Sign signs.Gt) refl, tt))
+put_op op.Ge = ((fixed (k.Sign signs.Ge), refl, refl, refl), (cut_fixed (k.Sign signs.Ge) refl, tt))
 
 put_comparison : (n : List ℕ) (o : Op) (v : Value) → (is_name n && is_literal v) ≡ true → AllTyped (comparison_tokens n o v) → Put simple_test (comparison_tokens n o v) (pred.Compare n o v)
 unfolding simple_test comparison
 put_comparison n o v h t =
     let p = and_parts (is_name n) (is_literal v) h in
     let front = put_name n p.0 (t.0, tt) in
-    let behind = put_then operator literal (fixed (op_kind o) ∷ []) (literal_tokens v) o v (put_op o) (put_literal v p.1 t.1.1) in
-    (((n, inr (o, v)), (name_tokens n, fixed (op_kind o) ∷ literal_tokens v, refl, front.0, inr ((o, v), behind.0, refl)), refl), append_cut (name_tokens n) (fixed (op_kind o) ∷ literal_tokens v) front.1 behind.1)
+    let behind = put_then operator literal (fixed (k.Sign (op_sign o)) ∷ []) (literal_tokens v) o v (put_op o) (put_literal v p.1 t.1.1) in
+    (((n, inr (o, v)), (name_tokens n, fixed (k.Sign (op_sign o)) ∷ literal_tokens v, refl, front.0, inr ((o, v), behind.0, refl)), refl), append_cut (name_tokens n) (fixed (k.Sign (op_sign o)) ∷ literal_tokens v) front.1 behind.1)
 
 put_is_null : (n : List ℕ) → is_name n ≡ true → AllTyped (is_null_tokens n) → Put simple_test (is_null_tokens n) (pred.IsNull n)
 unfolding simple_test nullness
 put_is_null n h t =
     let front = put_name n h (t.0, tt) in
-    let null = put_word k.Null refl in
-    let is_null = put_next k.Is (word k.Null) (fixed k.Null ∷ []) tt refl null in (
+    let null = put_word (k.Keyword words.Null) refl in
+    let is_null = put_next (k.Keyword words.Is) (word words.Null) (fixed (k.Keyword words.Null) ∷ []) tt refl null in (
       (
         (n, inl false),
         (
           name_tokens n,
-          fixed k.Is ∷ fixed k.Null ∷ [],
+          fixed (k.Keyword words.Is) ∷ fixed (k.Keyword words.Null) ∷ [],
           refl,
           front.0,
-          inl (false, ((tt, (false, tt)), (fixed k.Is ∷ [], fixed k.Null ∷ [], refl, (put_word k.Is refl).0, ([], fixed k.Null ∷ [], refl, (None, refl, refl), null.0)), refl), refl),
+          inl (false, ((tt, (false, tt)), (fixed (k.Keyword words.Is) ∷ [], fixed (k.Keyword words.Null) ∷ [], refl, (put_word (k.Keyword words.Is) refl).0, ([], fixed (k.Keyword words.Null) ∷ [], refl, (None, refl, refl), null.0)), refl), refl),
         ),
         refl,
       ),
-      append_cut (name_tokens n) (fixed k.Is ∷ fixed k.Null ∷ []) front.1 is_null.1,
+      append_cut (name_tokens n) (fixed (k.Keyword words.Is) ∷ fixed (k.Keyword words.Null) ∷ []) front.1 is_null.1,
     )
 
 put_not_null : (n : List ℕ) → is_name n ≡ true → AllTyped (not_null_tokens n) → Put simple_test (not_null_tokens n) (pred.NotNull n)
 unfolding simple_test nullness
 put_not_null n h t =
     let front = put_name n h (t.0, tt) in
-    let null = put_word k.Null refl in
-    let not = put_word k.Not refl in
-    let not_null = put_next k.Not (word k.Null) (fixed k.Null ∷ []) tt refl null in
-    let is_not_null = put_next k.Is (word k.Not then word k.Null) (fixed k.Not ∷ fixed k.Null ∷ []) (tt, tt) refl not_null in (
+    let null = put_word (k.Keyword words.Null) refl in
+    let not = put_word (k.Keyword words.Not) refl in
+    let not_null = put_next (k.Keyword words.Not) (word words.Null) (fixed (k.Keyword words.Null) ∷ []) tt refl null in
+    let is_not_null = put_next (k.Keyword words.Is) (word words.Not then word words.Null) (fixed (k.Keyword words.Not) ∷ fixed (k.Keyword words.Null) ∷ []) (tt, tt) refl not_null in (
       (
         (n, inl true),
         (
           name_tokens n,
-          fixed k.Is ∷ fixed k.Not ∷ fixed k.Null ∷ [],
+          fixed (k.Keyword words.Is) ∷ fixed (k.Keyword words.Not) ∷ fixed (k.Keyword words.Null) ∷ [],
           refl,
           front.0,
-          inl (true, ((tt, (true, tt)), (fixed k.Is ∷ [], fixed k.Not ∷ fixed k.Null ∷ [], refl, (put_word k.Is refl).0, (fixed k.Not ∷ [], fixed k.Null ∷ [], refl, (Some tt, not.0, refl), null.0)), refl), refl),
+          inl (true, ((tt, (true, tt)), (fixed (k.Keyword words.Is) ∷ [], fixed (k.Keyword words.Not) ∷ fixed (k.Keyword words.Null) ∷ [], refl, (put_word (k.Keyword words.Is) refl).0, (fixed (k.Keyword words.Not) ∷ [], fixed (k.Keyword words.Null) ∷ [], refl, (Some tt, not.0, refl), null.0)), refl), refl),
         ),
         refl,
       ),
-      append_cut (name_tokens n) (fixed k.Is ∷ fixed k.Not ∷ fixed k.Null ∷ []) front.1 is_not_null.1,
+      append_cut (name_tokens n) (fixed (k.Keyword words.Is) ∷ fixed (k.Keyword words.Not) ∷ fixed (k.Keyword words.Null) ∷ []) front.1 is_not_null.1,
     )
 
 -- ---- tests as parts
@@ -97,9 +99,9 @@ unfolding unary
 put_unary zero ts p h = h
 put_unary (suc n) ts p h = (inr (inr h.0), h.1)
 
-put_not : (n : ℕ) (ts : List Token) (p : Pred) → Put (unary n) ts p → Put (unary (suc n)) (fixed k.Not ∷ ts) (pred.Not p)
+put_not : (n : ℕ) (ts : List Token) (p : Pred) → Put (unary n) ts p → Put (unary (suc n)) (fixed (k.Keyword words.Not) ∷ ts) (pred.Not p)
 unfolding unary
-put_not n ts p h = let q = put_next k.Not (unary n) ts p refl h in (inl ((tt, p), q.0, refl), q.1)
+put_not n ts p h = let q = put_next (k.Keyword words.Not) (unary n) ts p refl h in (inl ((tt, p), q.0, refl), q.1)
 
 put_inner : (n : ℕ) (ts : List Token) (p : Pred) → Put (ors (unary n)) ts p → Put (unary (suc n)) (enclosed ts) p
 unfolding unary
@@ -128,7 +130,7 @@ abbrev Spelled : Shown → Pred → Type 0
 Spelled s p = (n : ℕ) → s.nesting ≤ n → AllTyped s.tokens → PutAt n s.shape s.tokens p
 
 inner_typed : (ts : List Token) → AllTyped (enclosed ts) → AllTyped ts
-inner_typed ts t = (typed_parts ts (fixed k.RightParen ∷ []) t.1).0
+inner_typed ts t = (typed_parts ts (fixed (k.Sign signs.RightParen) ∷ []) t.1).0
 
 any_of : (n : ℕ) (a : Shape) (ts : List Token) (p : Pred) → PutAt n a ts p → Put (ors (unary n)) ts p
 any_of n shapes.One ts p h = one_any (unary n) ts p (one_all (unary n) ts p h)
@@ -215,24 +217,24 @@ any_of_two (e ∷ []) h = cc
 any_of_two (e ∷ f ∷ es) h = refl
 
 put_all : (es : List Known) (n : ℕ) → (has_two (map is_sound (tests es)) && list_all (λ b. b) (map is_sound (tests es))) ≡ true → deepest (parts shapes.One es) ≤ n
-    → AllTyped (chain_tokens k.And (parts shapes.One es)) → Put (ands (unary n)) (chain_tokens k.And (parts shapes.One es)) (pred.And (tests es))
+    → AllTyped (chain_tokens (k.Keyword words.And) (parts shapes.One es)) → Put (ands (unary n)) (chain_tokens (k.Keyword words.And) (parts shapes.One es)) (pred.And (tests es))
 unfolding ands
 put_all es n h l t =
     let p = and_parts (has_two (map is_sound (tests es))) (list_all (λ b. b) (map is_sound (tests es))) h in
-    let c = chained shapes.One k.And unary (λ s p h n l t. one_part s.shape s.tokens s.nesting p h n l t) refl es n p.0 p.1 l t in
+    let c = chained shapes.One (k.Keyword words.And) unary (λ s p h n l t. one_part s.shape s.tokens s.nesting p h n l t) refl es n p.0 p.1 l t in
     ((tests es, c.0, all_of_two es p.0), c.1)
 
 put_any : (es : List Known) (n : ℕ) → (has_two (map is_sound (tests es)) && list_all (λ b. b) (map is_sound (tests es))) ≡ true → deepest (parts shapes.All es) ≤ n
-    → AllTyped (chain_tokens k.Or (parts shapes.All es)) → Put (ors (unary n)) (chain_tokens k.Or (parts shapes.All es)) (pred.Or (tests es))
+    → AllTyped (chain_tokens (k.Keyword words.Or) (parts shapes.All es)) → Put (ors (unary n)) (chain_tokens (k.Keyword words.Or) (parts shapes.All es)) (pred.Or (tests es))
 unfolding ors
 put_any es n h l t =
     let p = and_parts (has_two (map is_sound (tests es))) (list_all (λ b. b) (map is_sound (tests es))) h in
-    let c = chained shapes.All k.Or (λ i. ands (unary i)) (λ s p h n l t. all_part s.shape s.tokens s.nesting p h n l t) refl es n p.0 p.1 l t in
+    let c = chained shapes.All (k.Keyword words.Or) (λ i. ands (unary i)) (λ s p h n l t. all_part s.shape s.tokens s.nesting p h n l t) refl es n p.0 p.1 l t in
     ((tests es, c.0, any_of_two es p.0), c.1)
 
 -- ---- all tests
 
-one_more : (n : ℕ) (ts : List Token) (m : ℕ) (p : Pred) → ((i : ℕ) → m ≤ i → AllTyped ts → Put (unary i) ts p) → m + 1 ≤ n → AllTyped ts → Put (unary n) (fixed k.Not ∷ ts) (pred.Not p)
+one_more : (n : ℕ) (ts : List Token) (m : ℕ) (p : Pred) → ((i : ℕ) → m ≤ i → AllTyped ts → Put (unary i) ts p) → m + 1 ≤ n → AllTyped ts → Put (unary n) (fixed (k.Keyword words.Not) ∷ ts) (pred.Not p)
 one_more zero ts m p h l t = absurd (omega arith)
 one_more (suc n) ts m p h l t = put_not n ts p (h n (omega arith) t)
 
@@ -243,12 +245,12 @@ at_layer (Pred-F.IsNull name) p is h n l t = subst (λ q. Put (unary n) (is_null
 at_layer (Pred-F.NotNull name) p is h n l t = subst (λ q. Put (unary n) (not_null_tokens name) q) (sym (rolls-NotNull name) ∙ is) (put_unary n (not_null_tokens name) (pred.NotNull name) (put_not_null name h t))
 at_layer (Pred-F.Not e) p is h n l t =
     let s : Shown = within shapes.One (shown e.0) in
-    subst (λ q. Put (unary n) (fixed k.Not ∷ s.tokens) q) (sym (rolls-Not e.0) ∙ is)
+    subst (λ q. Put (unary n) (fixed (k.Keyword words.Not) ∷ s.tokens) q) (sym (rolls-Not e.0) ∙ is)
     (one_more n s.tokens s.nesting e.0 (λ i l t. one_part (shown e.0).shape (shown e.0).tokens (shown e.0).nesting e.0 (e.1 h) i l t) l t.1)
 at_layer (Pred-F.And es) p is h n l t =
-    subst (λ q. Put (ands (unary n)) (chain_tokens k.And (parts shapes.One es)) q) (sym (rolls-And (tests es)) ∙ is) (put_all es n h l t)
+    subst (λ q. Put (ands (unary n)) (chain_tokens (k.Keyword words.And) (parts shapes.One es)) q) (sym (rolls-And (tests es)) ∙ is) (put_all es n h l t)
 at_layer (Pred-F.Or es) p is h n l t =
-    subst (λ q. Put (ors (unary n)) (chain_tokens k.Or (parts shapes.All es)) q) (sym (rolls-Or (tests es)) ∙ is) (put_any es n h l t)
+    subst (λ q. Put (ors (unary n)) (chain_tokens (k.Keyword words.Or) (parts shapes.All es)) q) (sym (rolls-Or (tests es)) ∙ is) (put_any es n h l t)
 
 rolled : (x : Pred-F Pred) (y : Pred-F Known) → map-Pred Known Pred (λ e. e.0) y ≡ x → Holds (is_sound (roll-Pred x)) (shown (roll-Pred x)) (roll-Pred x)
 rolled x y e =
@@ -270,5 +272,5 @@ pub put_where : (o : Option Pred) → is_where o ≡ true → AllTyped (where_to
 unfolding where_
 put_where None h t = ((None, refl, refl), tt)
 put_where (Some p) h t =
-    let q = put_next k.Where condition (shown p).tokens p refl (put_condition p h t.1) in
+    let q = put_next (k.Keyword words.Where) condition (shown p).tokens p refl (put_condition p h t.1) in
     ((Some (tt, p), q.0, refl), q.1)

@@ -1,14 +1,15 @@
 -- A line's names have 1 to 255 bytes.
-use Rattle.std.proofs.Common.{◌≡◌, ℕ, zero, suc, ◌+◌, ◌-◌, Bool, true, false, cond, ◌&&◌, List, [], ◌∷◌, ◌++◌, length, take, drop, ◌==◌, ◌∙◌, refl, sym, arith, Option, Some, None}
+use Rattle.std.proofs.Common.{◌≡◌, ℕ, zero, suc, ◌+◌, ◌-◌, Bool, true, false, cond, List, [], ◌∷◌, ◌++◌, length, take, drop, ◌==◌, ◌∙◌, refl, sym, arith, Option, Some, None}
 use Rattle.std.specs.Prelude.{nat_le, option_map}
 use Rattle.std.specs.Str.{is_utf8}
-use Rattle.line_tokens.specs.Tokens.{bad, bytes_at, closing, is_blank, is_bytes, is_letter, is_number, keyword, long_sign, long_sign_of, made, number_at, plain, quoted_at, quoted_of, quoted_to, sign_at, sign_of, sign_to, taken, text_at, text_to, token_at, tokens_in, tokens_of, undouble, word_at, word_of, hex_len, digits_len, word_len}
-use Rattle.line_tokens.specs.declared.token.Kind.{Kind}
-use Rattle.line_tokens.specs.declared.token.Kind.TheVariants as k
-use Rattle.line_tokens.specs.declared.token.Token.{Token}
+use Rattle.stmt_tokens.specs.Tokens.{bad, bytes_at, closing, is_blank, is_bytes, is_letter, is_number, keyword, long_sign, made, number_at, plain, quoted_at, quoted_of, quoted_to, sign_at, sign_of, sign_to, taken, text_at, text_to, token_at, tokens_in, tokens_of, undouble, word_at, word_of, hex_len, digits_len, word_len}
+use Rattle.stmt_tokens.specs.declared.token.Kind.{Kind}
+use Rattle.stmt_tokens.specs.declared.token.Kind.TheVariants as k
+use Rattle.stmt_tokens.specs.declared.token.Sign.{Sign}
+use Rattle.stmt_tokens.specs.declared.token.Token.{Token}
 use Rattle.stmt_reader.specs.Rules as rules
 use Rattle.stmt_text.specs.Printable.{is_name}
-use Rattle.token_text.specs.Laws.{token_of}
+use Rattle.stmt_tokens.specs.Laws.{token_of}
 
 -- what stands for a name is one
 abbrev pub Fits : Token → Type 0
@@ -63,48 +64,13 @@ quoted_to_fits rest (Some n) = taken_fits (quoted_of (undouble 34 false (take (n
 
 -- ---- signs
 
-abbrev IsOther : Option Kind → Type 0
-IsOther None = Unit {0}
-IsOther (Some a) = rules.is_name a ≡ false
+plain_fits : (o : Option Sign) → FitsIfAny (option_map plain o)
+plain_fits None = tt
+plain_fits (Some a) = λ e. cc
 
-one_of_nine : (a b c d e f g h i : Bool)
-    → IsOther (cond a (Some k.LeftParen) (cond b (Some k.RightParen) (cond c (Some k.Comma) (cond d (Some k.Dot) (cond e (Some k.Semicolon) (cond f (Some k.Star) (cond g (Some k.Eq) (cond h (Some k.Lt) (cond i (Some k.Gt) None)))))))))
-one_of_nine true b c d e f g h i = refl
-one_of_nine false true c d e f g h i = refl
-one_of_nine false false true d e f g h i = refl
-one_of_nine false false false true e f g h i = refl
-one_of_nine false false false false true f g h i = refl
-one_of_nine false false false false false true g h i = refl
-one_of_nine false false false false false false true h i = refl
-one_of_nine false false false false false false false true i = refl
-one_of_nine false false false false false false false false true = refl
-one_of_nine false false false false false false false false false = tt
-
-one_of_five : (a b c d e : Bool) → IsOther (cond a (Some k.Ne) (cond b (Some k.Ne) (cond c (Some k.Le) (cond d (Some k.Ge) (cond e (Some k.Arrow) None)))))
-one_of_five true b c d e = refl
-one_of_five false true c d e = refl
-one_of_five false false true d e = refl
-one_of_five false false false true e = refl
-one_of_five false false false false true = refl
-one_of_five false false false false false = tt
-
-short_other : (b : ℕ) → IsOther (sign_of b)
-short_other b = one_of_nine (b == 40) (b == 41) (b == 44) (b == 46) (b == 59) (b == 42) (b == 61) (b == 60) (b == 62)
-
-long_other_of : (b c : ℕ) → IsOther (long_sign_of b c)
-long_other_of b c = one_of_five (b == 60 && c == 62) (b == 33 && c == 61) (b == 60 && c == 61) (b == 62 && c == 61) (b == 61 && c == 62)
-
-long_other : (b : ℕ) (rest : List ℕ) → IsOther (long_sign b rest)
-long_other b [] = tt
-long_other b (c ∷ rest) = long_other_of b c
-
-plain_fits : (o : Option Kind) → IsOther o → FitsIfAny (option_map plain o)
-plain_fits None h = tt
-plain_fits (Some a) h = λ e. absurd (let no : false ≡ true = sym h ∙ e in cc no)
-
-sign_to_fits : (b : ℕ) (rest : List ℕ) (o : Option Kind) → IsOther o → Fits (sign_to b rest o).0
-sign_to_fits b rest None h = taken_fits (option_map plain (sign_of b)) 0 rest (plain_fits (sign_of b) (short_other b))
-sign_to_fits b rest (Some a) h = λ e. absurd (let no : false ≡ true = sym h ∙ e in cc no)
+sign_to_fits : (b : ℕ) (rest : List ℕ) (o : Option Sign) → Fits (sign_to b rest o).0
+sign_to_fits b rest None = taken_fits (option_map plain (sign_of b)) 0 rest (plain_fits (sign_of b))
+sign_to_fits b rest (Some a) = λ e. cc
 
 -- ---- tokens
 
@@ -126,7 +92,7 @@ word_at_fits b rest =
 token_fits : (b : ℕ) (rest : List ℕ) → Fits (token_at b rest).0
 token_fits b rest =
     one_of_six (is_bytes b rest) (is_letter b) (is_number b rest) (b == 39) (b == 34) (bytes_at rest) (word_at b rest) (number_at b rest) (text_at rest) (quoted_at rest) (sign_at b rest)
-    (bytes_fit rest) (word_at_fits b rest) (number_fits b rest) (text_to_fits rest (closing 39 false 0 rest)) (quoted_to_fits rest (closing 34 false 0 rest)) (sign_to_fits b rest (long_sign b rest) (long_other b rest))
+    (bytes_fit rest) (word_at_fits b rest) (number_fits b rest) (text_to_fits rest (closing 39 false 0 rest)) (quoted_to_fits rest (closing 34 false 0 rest)) (sign_to_fits b rest (long_sign b rest))
   where
     one_of_six : (a b c d e : Bool) (u v w x y z : Token × ℕ) → Fits u.0 → Fits v.0 → Fits w.0 → Fits x.0 → Fits y.0 → Fits z.0 → Fits (cond a u (cond b v (cond c w (cond d x (cond e y z))))).0
     one_of_six true b c d e u v w x y z fu fv fw fx fy fz = fu

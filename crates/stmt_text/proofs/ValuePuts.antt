@@ -12,11 +12,11 @@ use Rattle.std.proofs.lemmas.Int.{ints}
 use Rattle.std.proofs.lemmas.Str.Parse.{IsDigitsTest, FoldsDigits, IsNumeralModel, numerals_by_fold}
 use Rattle.hex.specs.Hex.{encode_lower, encode_with, lower_digits}
 use Rattle.hex.proofs.HexLemmas.{length-encode_with}
-use Rattle.line_tokens.specs.Tokens.{is_digit, is_hex}
-use Rattle.line_tokens.specs.declared.token.Kind.TheVariants as k
-use Rattle.token_text.proofs.CutLemmas.{cut_digits, cut_minus}
-use Rattle.token_text.specs.Laws.{token_of}
-use Rattle.token_text.specs.Spelled.{IsCut}
+use Rattle.stmt_tokens.specs.Tokens.{is_digit, is_hex}
+use Rattle.stmt_tokens.specs.declared.token.Kind.TheVariants as k
+use Rattle.stmt_tokens.proofs.CutLemmas.{cut_digits, cut_minus}
+use Rattle.stmt_tokens.specs.Laws.{token_of}
+use Rattle.stmt_tokens.specs.Spelled.{IsCut}
 use Rattle.stmt_reader.specs.Values.{natural, is_negative, magnitude, signed, integer_of, count_of, session_of, numbered, counted, unhex, hex_digit}
 
 -- ---- digits

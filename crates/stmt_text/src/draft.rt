@@ -2,15 +2,15 @@ ghost use Rattle.std.specs.Prelude.{◌≡◌, ◌∷◌, ◌++◌, [], true, If
 ghost use Rattle.std.specs.List.{list_all};
 ghost use Rattle.std.specs.String.{string_bytes};
 ghost use Rattle.hex.specs.Hex.{encode_lower};
-ghost use Rattle.line_tokens.specs.Tokens.{is_hex};
-ghost use Rattle.token_text.specs.Laws.{token_of};
-ghost use Rattle.token_text.specs.Spelled.{fixed};
+ghost use Rattle.stmt_tokens.specs.Tokens.{is_hex};
+ghost use Rattle.stmt_tokens.specs.Laws.{token_of};
+ghost use Rattle.stmt_tokens.specs.Spelled.{mark, word};
 ghost use Rattle.stmt_text.specs.Printed as spec;
 
 use hex::encode;
 use lake_types::{Listed, Words};
-use line_tokens::{Kind, Token, TokenList, word_of};
 use std::alloc::{AllocError, Global};
+use stmt_tokens::{Keyword, Kind, Sign, Token, TokenList, word_of};
 
 /// The tokens of a line so far.
 #[derive(Drop)]
@@ -36,12 +36,18 @@ impl Draft {
         self.tokens.push(Token { kind, text })
     }
 
-    /// Adds a keyword or a sign.
-    #[tactic(auto, using(crate::proofs::DraftLemmas::typed))]
-    pub fn word(&mut self, alloc: Global, kind: Kind) -> Result<(), AllocError>
-        ensures { OnOk result (self.new.tokens ≡ self.old.tokens ++ fixed kind ∷ []) }
+    /// Adds a keyword.
+    pub fn word(&mut self, alloc: Global, keyword: Keyword) -> Result<(), AllocError>
+        ensures { OnOk result (self.new.tokens ≡ self.old.tokens ++ word keyword ∷ []) }
     {
-        self.push(alloc, kind, word_of(kind))
+        self.push(alloc, Kind::Keyword(keyword), word_of(keyword))
+    }
+
+    /// Adds a sign.
+    pub fn sign(&mut self, alloc: Global, sign: Sign) -> Result<(), AllocError>
+        ensures { OnOk result (self.new.tokens ≡ self.old.tokens ++ mark sign ∷ []) }
+    {
+        self.push(alloc, Kind::Sign(sign), "")
     }
 
     /// Adds a name in quotes.

@@ -11,12 +11,9 @@ mod reader;
 mod rows;
 mod statement;
 
-pub use laws::{a_line_answers_what_it_says, what_a_line_says_can_be_printed};
+pub use laws::{a_line_answers_what_it_says, what_lines_say_can_be_printed};
 pub use printer::print;
 pub use reader::read_line;
-pub use stmt_reader::{LineNo, each_line_has_one_answer, each_line_says_one_thing};
-
-#[cfg(test)]
-mod reading_tests;
-#[cfg(test)]
-mod tests;
+pub use stmt_reader::{
+    LineNo, each_line_has_one_answer, each_line_says_one_thing, session_of_line,
+};

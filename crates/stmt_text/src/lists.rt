@@ -1,11 +1,12 @@
 ghost use Rattle.std.specs.Prelude.{◌≡◌, ◌++◌, List, OnOk};
-ghost use Rattle.line_tokens.specs.declared.token.Token.{Token};
-ghost use Rattle.line_tokens.specs.declared.token.Kind.TheVariants.{Comma};
+ghost use Rattle.stmt_tokens.specs.declared.token.Token.{Token};
+ghost use Rattle.stmt_tokens.specs.declared.token.Kind.TheVariants as k;
+ghost use Rattle.stmt_tokens.specs.declared.token.Sign.TheVariants.{Comma};
 ghost use Rattle.stmt_text.specs.Printed.{joined, others};
 
 use crate::draft::Draft;
-use line_tokens::Kind;
 use std::alloc::{AllocError, Global};
+use stmt_tokens::Sign;
 
 /// What is printed as tokens.
 pub trait Put {
@@ -17,10 +18,10 @@ pub trait Put {
 }
 
 fn put_others<T: Put>(alloc: Global, line: &mut Draft, mut items: &[T]) -> Result<(), AllocError>
-    ensures { OnOk result (line.new.tokens ≡ line.old.tokens ++ others Comma T.tokens items.entry.now) }
+    ensures { OnOk result (line.new.tokens ≡ line.old.tokens ++ others (k.Sign Comma) T.tokens items.entry.now) }
 {
     while let [item, rest @ ..] = items {
-        line.word(alloc, Kind::Comma)?;
+        line.sign(alloc, Sign::Comma)?;
         item.put(alloc, line)?;
         items = rest;
     }
@@ -29,7 +30,7 @@ fn put_others<T: Put>(alloc: Global, line: &mut Draft, mut items: &[T]) -> Resul
 
 /// Adds items with commas between them.
 pub fn put_list<T: Put>(alloc: Global, line: &mut Draft, items: &[T]) -> Result<(), AllocError>
-    ensures { OnOk result (line.new.tokens ≡ line.old.tokens ++ joined Comma T.tokens items.now) }
+    ensures { OnOk result (line.new.tokens ≡ line.old.tokens ++ joined (k.Sign Comma) T.tokens items.now) }
 {
     match items {
         [first, rest @ ..] => {

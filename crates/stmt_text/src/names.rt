@@ -4,30 +4,30 @@ ghost use Rattle.stmt_text.specs.Printed as spec;
 use crate::draft::Draft;
 use crate::lists::Put;
 use lake_types::{ColType, ColumnDef, TableName, Value, Words, is_day, text_of};
-use line_tokens::Kind;
 use std::alloc::{AllocError, Global};
+use stmt_tokens::{Keyword, Sign};
 
 /// Adds a table's name with its schema.
 pub fn put_table(alloc: Global, line: &mut Draft, table: &TableName) -> Result<(), AllocError>
     ensures { OnOk result (line.new.tokens ≡ line.old.tokens ++ spec.table_tokens table.now) }
 {
     line.name(alloc, &table.schema)?;
-    line.word(alloc, Kind::Dot)?;
+    line.sign(alloc, Sign::Dot)?;
     line.name(alloc, &table.table)
 }
 
-fn type_kind(ty: ColType) -> Kind
-    ensures { result ≡ spec.type_kind ty }
+fn type_word(ty: ColType) -> Keyword
+    ensures { result ≡ spec.type_word ty }
 {
     match ty {
-        ColType::Bool => Kind::Boolean,
-        ColType::Int8 => Kind::TinyInt,
-        ColType::Int16 => Kind::SmallInt,
-        ColType::Int32 => Kind::Integer,
-        ColType::Int64 => Kind::BigInt,
-        ColType::Varchar => Kind::Varchar,
-        ColType::Blob => Kind::Blob,
-        ColType::Date => Kind::Date,
+        ColType::Bool => Keyword::Boolean,
+        ColType::Int8 => Keyword::TinyInt,
+        ColType::Int16 => Keyword::SmallInt,
+        ColType::Int32 => Keyword::Integer,
+        ColType::Int64 => Keyword::BigInt,
+        ColType::Varchar => Keyword::Varchar,
+        ColType::Blob => Keyword::Blob,
+        ColType::Date => Keyword::Date,
     }
 }
 
@@ -35,7 +35,7 @@ fn type_kind(ty: ColType) -> Kind
 pub fn put_type(alloc: Global, line: &mut Draft, ty: ColType) -> Result<(), AllocError>
     ensures { OnOk result (line.new.tokens ≡ line.old.tokens ++ spec.type_tokens ty) }
 {
-    line.word(alloc, type_kind(ty))
+    line.word(alloc, type_word(ty))
 }
 
 fn day_words(alloc: Global, day: i32) -> Result<Words, AllocError>
@@ -51,7 +51,7 @@ fn day_words(alloc: Global, day: i32) -> Result<Words, AllocError>
 fn put_day(alloc: Global, line: &mut Draft, day: i32) -> Result<(), AllocError>
     ensures { OnOk result (line.new.tokens ≡ line.old.tokens ++ spec.day_tokens day) }
 {
-    line.word(alloc, Kind::Date)?;
+    line.word(alloc, Keyword::Date)?;
     let text = day_words(alloc, day)?;
     line.text(alloc, text.as_str())
 }
@@ -76,9 +76,9 @@ pub fn put_literal(alloc: Global, line: &mut Draft, value: &Value) -> Result<(),
     ensures { OnOk result (line.new.tokens ≡ line.old.tokens ++ spec.literal_tokens value.now) }
 {
     match value {
-        Value::Null => line.word(alloc, Kind::Null),
-        Value::Bool(true) => line.word(alloc, Kind::True),
-        Value::Bool(false) => line.word(alloc, Kind::False),
+        Value::Null => line.word(alloc, Keyword::Null),
+        Value::Bool(true) => line.word(alloc, Keyword::True),
+        Value::Bool(false) => line.word(alloc, Keyword::False),
         Value::Int(number) => put_integer(alloc, line, *number),
         Value::Text(text) => line.text(alloc, text.as_str()),
         Value::Bytes(bytes) => line.bytes(alloc, bytes.as_slice()),
@@ -92,8 +92,8 @@ fn put_nulls(alloc: Global, line: &mut Draft, nulls: bool) -> Result<(), AllocEr
     if nulls {
         return Ok(());
     }
-    line.word(alloc, Kind::Not)?;
-    line.word(alloc, Kind::Null)
+    line.word(alloc, Keyword::Not)?;
+    line.word(alloc, Keyword::Null)
 }
 
 fn put_default(alloc: Global, line: &mut Draft, value: &Option<Value>) -> Result<(), AllocError>
@@ -101,7 +101,7 @@ fn put_default(alloc: Global, line: &mut Draft, value: &Option<Value>) -> Result
 {
     match value {
         Some(value) => {
-            line.word(alloc, Kind::Default)?;
+            line.word(alloc, Keyword::Default)?;
             put_literal(alloc, line, value)
         }
         None => Ok(()),

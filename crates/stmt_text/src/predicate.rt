@@ -5,8 +5,8 @@ ghost use Rattle.stmt_text.specs.declared.predicate.Shape.TheVariants as shapes;
 use crate::draft::Draft;
 use crate::names::put_literal;
 use lake_types::{Op, Pred, Value, Words};
-use line_tokens::Kind;
 use std::alloc::{AllocError, Global};
+use stmt_tokens::{Keyword, Kind, Sign};
 
 /// What a test is to those around it: one test, a chain of ANDs, or a chain of ORs.
 #[derive(Clone, Copy, Debug, PartialEq, Eq)]
@@ -26,16 +26,16 @@ fn shape_of(test: &Pred) -> Shape
     }
 }
 
-fn op_kind(op: Op) -> Kind
-    ensures { result ≡ spec.op_kind op }
+fn op_sign(op: Op) -> Sign
+    ensures { result ≡ spec.op_sign op }
 {
     match op {
-        Op::Eq => Kind::Eq,
-        Op::Ne => Kind::Ne,
-        Op::Lt => Kind::Lt,
-        Op::Le => Kind::Le,
-        Op::Gt => Kind::Gt,
-        Op::Ge => Kind::Ge,
+        Op::Eq => Sign::Eq,
+        Op::Ne => Sign::Ne,
+        Op::Lt => Sign::Lt,
+        Op::Le => Sign::Le,
+        Op::Gt => Sign::Gt,
+        Op::Ge => Sign::Ge,
     }
 }
 
@@ -49,7 +49,7 @@ fn put_comparison(
     ensures { OnOk result (line.new.tokens ≡ line.old.tokens ++ spec.comparison_tokens name.now op value.now) }
 {
     line.name(alloc, name)?;
-    line.word(alloc, op_kind(op))?;
+    line.sign(alloc, op_sign(op))?;
     put_literal(alloc, line, value)
 }
 
@@ -57,17 +57,17 @@ fn put_is_null(alloc: Global, line: &mut Draft, name: &Words) -> Result<(), Allo
     ensures { OnOk result (line.new.tokens ≡ line.old.tokens ++ spec.is_null_tokens name.now) }
 {
     line.name(alloc, name)?;
-    line.word(alloc, Kind::Is)?;
-    line.word(alloc, Kind::Null)
+    line.word(alloc, Keyword::Is)?;
+    line.word(alloc, Keyword::Null)
 }
 
 fn put_not_null(alloc: Global, line: &mut Draft, name: &Words) -> Result<(), AllocError>
     ensures { OnOk result (line.new.tokens ≡ line.old.tokens ++ spec.not_null_tokens name.now) }
 {
     line.name(alloc, name)?;
-    line.word(alloc, Kind::Is)?;
-    line.word(alloc, Kind::Not)?;
-    line.word(alloc, Kind::Null)
+    line.word(alloc, Keyword::Is)?;
+    line.word(alloc, Keyword::Not)?;
+    line.word(alloc, Keyword::Null)
 }
 
 /// Whether what has this shape is put in parentheses, where this one is the weakest that may stand.
@@ -90,11 +90,11 @@ pub fn put_test(alloc: Global, line: &mut Draft, test: &Pred) -> Result<(), Allo
         Pred::IsNull { name } => put_is_null(alloc, line, name),
         Pred::NotNull { name } => put_not_null(alloc, line, name),
         Pred::Not(part) => {
-            line.word(alloc, Kind::Not)?;
+            line.word(alloc, Keyword::Not)?;
             put_part(alloc, line, Shape::One, part.get())
         }
-        Pred::And(parts) => put_parts(alloc, line, Shape::One, Kind::And, parts.as_slice()),
-        Pred::Or(parts) => put_parts(alloc, line, Shape::All, Kind::Or, parts.as_slice()),
+        Pred::And(parts) => put_parts(alloc, line, Shape::One, Keyword::And, parts.as_slice()),
+        Pred::Or(parts) => put_parts(alloc, line, Shape::All, Keyword::Or, parts.as_slice()),
     }
 }
 
@@ -106,9 +106,9 @@ fn put_part(alloc: Global, line: &mut Draft, most: Shape, test: &Pred) -> Result
     if !is_enclosed(most, shape_of(test)) {
         return put_test(alloc, line, test);
     }
-    line.word(alloc, Kind::LeftParen)?;
+    line.sign(alloc, Sign::LeftParen)?;
     put_test(alloc, line, test)?;
-    line.word(alloc, Kind::RightParen)
+    line.sign(alloc, Sign::RightParen)
 }
 
 /// Adds tests with a word between them.
@@ -117,10 +117,10 @@ fn put_parts(
     alloc: Global,
     line: &mut Draft,
     most: Shape,
-    sep: Kind,
+    sep: Keyword,
     tests: &[Pred],
 ) -> Result<(), AllocError>
-    ensures { OnOk result (line.new.tokens ≡ line.old.tokens ++ spec.chain_tokens sep (map (spec.within most) (map spec.shown tests.now))) }
+    ensures { OnOk result (line.new.tokens ≡ line.old.tokens ++ spec.chain_tokens (Kind.Keyword sep) (map (spec.within most) (map spec.shown tests.now))) }
 {
     let mut is_first = true;
     for test in tests {

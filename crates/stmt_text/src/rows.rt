@@ -8,8 +8,8 @@ use crate::predicate::put_test;
 use lake_types::{
     Assignments, Cell, CellList, CellRows, Item, ItemList, Pred, TableName, Value, Words,
 };
-use line_tokens::Kind;
 use std::alloc::{AllocError, Global};
+use stmt_tokens::{Keyword, Sign};
 
 impl Put for Cell {
     ghost use Rattle.stmt_text.specs.Printed.{cell_tokens};
@@ -19,7 +19,7 @@ impl Put for Cell {
     fn put(&self, alloc: Global, line: &mut Draft) -> Result<(), AllocError> {
         match self {
             Cell::Given(value) => put_literal(alloc, line, value),
-            Cell::Default => line.word(alloc, Kind::Default),
+            Cell::Default => line.word(alloc, Keyword::Default),
         }
     }
 }
@@ -30,9 +30,9 @@ impl Put for CellList {
     ghost tokens = { row_tokens };
 
     fn put(&self, alloc: Global, line: &mut Draft) -> Result<(), AllocError> {
-        line.word(alloc, Kind::LeftParen)?;
+        line.sign(alloc, Sign::LeftParen)?;
         put_list(alloc, line, self.as_slice())?;
-        line.word(alloc, Kind::RightParen)
+        line.sign(alloc, Sign::RightParen)
     }
 }
 
@@ -44,7 +44,7 @@ impl Put for Item {
     fn put(&self, alloc: Global, line: &mut Draft) -> Result<(), AllocError> {
         match self {
             Item::Column { name } => line.name(alloc, name),
-            Item::RowId => line.word(alloc, Kind::RowId),
+            Item::RowId => line.word(alloc, Keyword::RowId),
         }
     }
 }
@@ -56,7 +56,7 @@ impl Put for (Words, Value) {
 
     fn put(&self, alloc: Global, line: &mut Draft) -> Result<(), AllocError> {
         line.name(alloc, &self.0)?;
-        line.word(alloc, Kind::Eq)?;
+        line.sign(alloc, Sign::Eq)?;
         put_literal(alloc, line, &self.1)
     }
 }
@@ -65,7 +65,7 @@ fn put_items(alloc: Global, line: &mut Draft, items: &ItemList) -> Result<(), Al
     ensures { OnOk result (line.new.tokens ≡ line.old.tokens ++ spec.shown_items items.now) }
 {
     if items.is_empty() {
-        line.word(alloc, Kind::Star)
+        line.sign(alloc, Sign::Star)
     } else {
         put_list(alloc, line, items.as_slice())
     }
@@ -76,7 +76,7 @@ fn put_where(alloc: Global, line: &mut Draft, test: &Option<Pred>) -> Result<(),
 {
     match test {
         Some(test) => {
-            line.word(alloc, Kind::Where)?;
+            line.word(alloc, Keyword::Where)?;
             put_test(alloc, line, test)
         }
         None => Ok(()),
@@ -91,10 +91,10 @@ pub fn put_insert(
 ) -> Result<(), AllocError>
     ensures { OnOk result (line.new.tokens ≡ line.old.tokens ++ spec.insert_tokens table.now rows.now) }
 {
-    line.word(alloc, Kind::Insert)?;
-    line.word(alloc, Kind::Into)?;
+    line.word(alloc, Keyword::Insert)?;
+    line.word(alloc, Keyword::Into)?;
     put_table(alloc, line, table)?;
-    line.word(alloc, Kind::Values)?;
+    line.word(alloc, Keyword::Values)?;
     put_list(alloc, line, rows.as_slice())
 }
 
@@ -106,8 +106,8 @@ pub fn put_delete(
 ) -> Result<(), AllocError>
     ensures { OnOk result (line.new.tokens ≡ line.old.tokens ++ spec.delete_tokens table.now test.now) }
 {
-    line.word(alloc, Kind::Delete)?;
-    line.word(alloc, Kind::From)?;
+    line.word(alloc, Keyword::Delete)?;
+    line.word(alloc, Keyword::From)?;
     put_table(alloc, line, table)?;
     put_where(alloc, line, test)
 }
@@ -121,9 +121,9 @@ pub fn put_update(
 ) -> Result<(), AllocError>
     ensures { OnOk result (line.new.tokens ≡ line.old.tokens ++ spec.update_tokens table.now set.now test.now) }
 {
-    line.word(alloc, Kind::Update)?;
+    line.word(alloc, Keyword::Update)?;
     put_table(alloc, line, table)?;
-    line.word(alloc, Kind::Set)?;
+    line.word(alloc, Keyword::Set)?;
     put_list(alloc, line, set.as_slice())?;
     put_where(alloc, line, test)
 }
@@ -137,9 +137,9 @@ pub fn put_select(
 ) -> Result<(), AllocError>
     ensures { OnOk result (line.new.tokens ≡ line.old.tokens ++ spec.select_tokens table.now items.now test.now) }
 {
-    line.word(alloc, Kind::Select)?;
+    line.word(alloc, Keyword::Select)?;
     put_items(alloc, line, items)?;
-    line.word(alloc, Kind::From)?;
+    line.word(alloc, Keyword::From)?;
     put_table(alloc, line, table)?;
     put_where(alloc, line, test)
 }

@@ -6,27 +6,32 @@ use crate::lists::{Put, put_list};
 use crate::names::{put_literal, put_number, put_table, put_type};
 use crate::rows::{put_delete, put_insert, put_select, put_update};
 use lake_types::{Alter, ColType, ColumnDef, ColumnDefs, Stmt, TableName, Value, Words};
-use line_tokens::Kind;
 use std::alloc::{AllocError, Global};
+use stmt_tokens::{Keyword, Sign};
 
 fn put_begin_at(alloc: Global, line: &mut Draft, n: u64) -> Result<(), AllocError>
     ensures { OnOk result (line.new.tokens ≡ line.old.tokens ++ spec.begin_at_tokens n) }
 {
-    line.word(alloc, Kind::Begin)?;
-    line.word(alloc, Kind::At)?;
-    line.word(alloc, Kind::LeftParen)?;
-    line.word(alloc, Kind::Version)?;
-    line.word(alloc, Kind::Arrow)?;
+    line.word(alloc, Keyword::Begin)?;
+    line.word(alloc, Keyword::At)?;
+    line.sign(alloc, Sign::LeftParen)?;
+    line.word(alloc, Keyword::Version)?;
+    line.sign(alloc, Sign::Arrow)?;
     put_number(alloc, line, n)?;
-    line.word(alloc, Kind::RightParen)
+    line.sign(alloc, Sign::RightParen)
 }
 
 /// Adds a verb and SCHEMA with a name.
-fn put_schema(alloc: Global, line: &mut Draft, verb: Kind, name: &Words) -> Result<(), AllocError>
+fn put_schema(
+    alloc: Global,
+    line: &mut Draft,
+    verb: Keyword,
+    name: &Words,
+) -> Result<(), AllocError>
     ensures { OnOk result (line.new.tokens ≡ line.old.tokens ++ spec.schema_tokens verb name.now) }
 {
     line.word(alloc, verb)?;
-    line.word(alloc, Kind::Schema)?;
+    line.word(alloc, Keyword::Schema)?;
     line.name(alloc, name)
 }
 
@@ -34,13 +39,13 @@ fn put_schema(alloc: Global, line: &mut Draft, verb: Kind, name: &Words) -> Resu
 fn put_verb_table(
     alloc: Global,
     line: &mut Draft,
-    verb: Kind,
+    verb: Keyword,
     table: &TableName,
 ) -> Result<(), AllocError>
     ensures { OnOk result (line.new.tokens ≡ line.old.tokens ++ spec.verb_table_tokens verb table.now) }
 {
     line.word(alloc, verb)?;
-    line.word(alloc, Kind::Table)?;
+    line.word(alloc, Keyword::Table)?;
     put_table(alloc, line, table)
 }
 
@@ -52,43 +57,48 @@ fn put_create_table(
 ) -> Result<(), AllocError>
     ensures { OnOk result (line.new.tokens ≡ line.old.tokens ++ spec.create_table_tokens table.now columns.now) }
 {
-    put_verb_table(alloc, line, Kind::Create, table)?;
-    line.word(alloc, Kind::LeftParen)?;
+    put_verb_table(alloc, line, Keyword::Create, table)?;
+    line.sign(alloc, Sign::LeftParen)?;
     put_list(alloc, line, columns.as_slice())?;
-    line.word(alloc, Kind::RightParen)
+    line.sign(alloc, Sign::RightParen)
 }
 
-fn put_column(alloc: Global, line: &mut Draft, verb: Kind, name: &Words) -> Result<(), AllocError>
+fn put_column(
+    alloc: Global,
+    line: &mut Draft,
+    verb: Keyword,
+    name: &Words,
+) -> Result<(), AllocError>
     ensures { OnOk result (line.new.tokens ≡ line.old.tokens ++ spec.verb_column_tokens verb name.now) }
 {
     line.word(alloc, verb)?;
-    line.word(alloc, Kind::Column)?;
+    line.word(alloc, Keyword::Column)?;
     line.name(alloc, name)
 }
 
 fn put_add(alloc: Global, line: &mut Draft, column: &ColumnDef) -> Result<(), AllocError>
     ensures { OnOk result (line.new.tokens ≡ line.old.tokens ++ spec.add_tokens column.now) }
 {
-    line.word(alloc, Kind::Add)?;
-    line.word(alloc, Kind::Column)?;
+    line.word(alloc, Keyword::Add)?;
+    line.word(alloc, Keyword::Column)?;
     column.put(alloc, line)
 }
 
 fn put_rename(alloc: Global, line: &mut Draft, name: &Words, to: &Words) -> Result<(), AllocError>
     ensures { OnOk result (line.new.tokens ≡ line.old.tokens ++ spec.rename_tokens name.now to.now) }
 {
-    put_column(alloc, line, Kind::Rename, name)?;
-    line.word(alloc, Kind::To)?;
+    put_column(alloc, line, Keyword::Rename, name)?;
+    line.word(alloc, Keyword::To)?;
     line.name(alloc, to)
 }
 
 fn put_promote(alloc: Global, line: &mut Draft, name: &Words, ty: ColType) -> Result<(), AllocError>
     ensures { OnOk result (line.new.tokens ≡ line.old.tokens ++ spec.promote_tokens name.now ty) }
 {
-    put_column(alloc, line, Kind::Alter, name)?;
-    line.word(alloc, Kind::Set)?;
-    line.word(alloc, Kind::Data)?;
-    line.word(alloc, Kind::Type)?;
+    put_column(alloc, line, Keyword::Alter, name)?;
+    line.word(alloc, Keyword::Set)?;
+    line.word(alloc, Keyword::Data)?;
+    line.word(alloc, Keyword::Type)?;
     put_type(alloc, line, ty)
 }
 
@@ -100,9 +110,9 @@ fn put_set_default(
 ) -> Result<(), AllocError>
     ensures { OnOk result (line.new.tokens ≡ line.old.tokens ++ spec.set_default_tokens name.now value.now) }
 {
-    put_column(alloc, line, Kind::Alter, name)?;
-    line.word(alloc, Kind::Set)?;
-    line.word(alloc, Kind::Default)?;
+    put_column(alloc, line, Keyword::Alter, name)?;
+    line.word(alloc, Keyword::Set)?;
+    line.word(alloc, Keyword::Default)?;
     put_literal(alloc, line, value)
 }
 
@@ -111,7 +121,7 @@ fn put_change(alloc: Global, line: &mut Draft, change: &Alter) -> Result<(), All
 {
     match change {
         Alter::Add(column) => put_add(alloc, line, column),
-        Alter::Remove { name } => put_column(alloc, line, Kind::Drop, name),
+        Alter::Remove { name } => put_column(alloc, line, Keyword::Drop, name),
         Alter::Rename { name, to } => put_rename(alloc, line, name, to),
         Alter::Promote { name, ty } => put_promote(alloc, line, name, *ty),
         Alter::SetDefault { name, value } => put_set_default(alloc, line, name, value),
@@ -126,7 +136,7 @@ fn put_alter(
 ) -> Result<(), AllocError>
     ensures { OnOk result (line.new.tokens ≡ line.old.tokens ++ spec.alter_tokens table.now change.now) }
 {
-    put_verb_table(alloc, line, Kind::Alter, table)?;
+    put_verb_table(alloc, line, Keyword::Alter, table)?;
     put_change(alloc, line, change)
 }
 
@@ -134,7 +144,7 @@ fn put_alter(
 fn put_upkeep(
     alloc: Global,
     line: &mut Draft,
-    verb: Kind,
+    verb: Keyword,
     table: &TableName,
 ) -> Result<(), AllocError>
     ensures { OnOk result (line.new.tokens ≡ line.old.tokens ++ spec.upkeep_tokens verb table.now) }
@@ -146,32 +156,32 @@ fn put_upkeep(
 fn put_expire(alloc: Global, line: &mut Draft, n: u64) -> Result<(), AllocError>
     ensures { OnOk result (line.new.tokens ≡ line.old.tokens ++ spec.expire_tokens n) }
 {
-    line.word(alloc, Kind::Expire)?;
+    line.word(alloc, Keyword::Expire)?;
     put_number(alloc, line, n)
 }
 
 /// Adds a statement.
 pub fn put_stmt(alloc: Global, line: &mut Draft, stmt: &Stmt) -> Result<(), AllocError>
-    ensures { OnOk result (line.new.tokens ≡ line.old.tokens ++ spec.stmt_tokens stmt.now) }
+    ensures { OnOk result (line.new.tokens ≡ line.old.tokens ++ spec.statement_tokens stmt.now) }
 {
     match stmt {
-        Stmt::Begin => line.word(alloc, Kind::Begin),
+        Stmt::Begin => line.word(alloc, Keyword::Begin),
         Stmt::BeginAt { n } => put_begin_at(alloc, line, *n),
-        Stmt::Commit => line.word(alloc, Kind::Commit),
-        Stmt::Rollback => line.word(alloc, Kind::Rollback),
-        Stmt::CreateSchema { name } => put_schema(alloc, line, Kind::Create, name),
-        Stmt::DropSchema { name } => put_schema(alloc, line, Kind::Drop, name),
+        Stmt::Commit => line.word(alloc, Keyword::Commit),
+        Stmt::Rollback => line.word(alloc, Keyword::Rollback),
+        Stmt::CreateSchema { name } => put_schema(alloc, line, Keyword::Create, name),
+        Stmt::DropSchema { name } => put_schema(alloc, line, Keyword::Drop, name),
         Stmt::CreateTable { table, columns } => put_create_table(alloc, line, table, columns),
-        Stmt::DropTable { table } => put_verb_table(alloc, line, Kind::Drop, table),
+        Stmt::DropTable { table } => put_verb_table(alloc, line, Keyword::Drop, table),
         Stmt::Change { table, change } => put_alter(alloc, line, table, change),
         Stmt::Insert { table, rows } => put_insert(alloc, line, table, rows),
         Stmt::Delete { table, pred } => put_delete(alloc, line, table, pred),
         Stmt::Update { table, set, pred } => put_update(alloc, line, table, set, pred),
         Stmt::Select { table, items, pred } => put_select(alloc, line, table, items, pred),
-        Stmt::Compact { table } => put_upkeep(alloc, line, Kind::Compact, table),
-        Stmt::Flush { table } => put_upkeep(alloc, line, Kind::Flush, table),
+        Stmt::Compact { table } => put_upkeep(alloc, line, Keyword::Compact, table),
+        Stmt::Flush { table } => put_upkeep(alloc, line, Keyword::Flush, table),
         Stmt::Expire { n } => put_expire(alloc, line, *n),
-        Stmt::Clean => line.word(alloc, Kind::Clean),
-        Stmt::Snapshots => line.word(alloc, Kind::Snapshots),
+        Stmt::Clean => line.word(alloc, Keyword::Clean),
+        Stmt::Snapshots => line.word(alloc, Keyword::Snapshots),
     }
 }

@@ -1,8 +1,9 @@
 use Rattle.std.proofs.Common.{◌≡◌, ◌-◌, ◌+◌, ◌*◌}
-use Rattle.token_grammar.specs.Grammar.{read}
-use Rattle.token_grammar.specs.Reads.{with_front, others}
-use Rattle.line_tokens.specs.declared.token.Kind.TheVariants as k
-use Rattle.token_grammar.specs.Phrases.{chain}
+use Rattle.stmt_grammar.specs.Grammar.{read}
+use Rattle.stmt_grammar.specs.Reads.{with_front, others}
+use Rattle.stmt_tokens.specs.declared.token.Keyword.TheVariants as words
+use Rattle.stmt_tokens.specs.declared.token.Kind.TheVariants as k
+use Rattle.stmt_grammar.specs.Phrases.{chain}
 use Rattle.stmt_reader.specs.Rules.{unary, ands}
 use Rattle.stmt_reader.proofs.predicate.+predicate.Given as goal
 
@@ -23,7 +24,7 @@ decreases-any l = 5 * l.depth + 4
 
 -- the parts so far and those to come are all
 abbrev pub invariant-and_parts-loop-turn : goal.invariant-and_parts-loop-turn
-invariant-and_parts-loop-turn l = with_front l.parts (others k.And (unary l.depth) (l._turn-end - l._turn) l.tokens.rest.now) ≡ read (chain k.And (unary l.depth)) l.fn.tokens.rest.now
+invariant-and_parts-loop-turn l = with_front l.parts (others (k.Keyword words.And) (unary l.depth) (l._turn-end - l._turn) l.tokens.rest.now) ≡ read (chain (k.Keyword words.And) (unary l.depth)) l.fn.tokens.rest.now
 
 abbrev pub invariant-or_parts-loop-turn : goal.invariant-or_parts-loop-turn
-invariant-or_parts-loop-turn l = with_front l.parts (others k.Or (ands (unary l.depth)) (l._turn-end - l._turn) l.tokens.rest.now) ≡ read (chain k.Or (ands (unary l.depth))) l.fn.tokens.rest.now
+invariant-or_parts-loop-turn l = with_front l.parts (others (k.Keyword words.Or) (ands (unary l.depth)) (l._turn-end - l._turn) l.tokens.rest.now) ≡ read (chain (k.Keyword words.Or) (ands (unary l.depth))) l.fn.tokens.rest.now

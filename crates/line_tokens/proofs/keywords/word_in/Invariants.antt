@@ -1,9 +1,0 @@
-use Rattle.std.proofs.Common.{◌≡◌, length, map}
-use Rattle.line_tokens.specs.Tokens.{word_in}
-use Rattle.line_tokens.proofs.keywords.word_in.Given as goal
-
-abbrev pub invariant-loop-table : goal.invariant-loop-table
-invariant-loop-table l = word_in (map (λ k. (k.0.now, k.1)) l.table) l.kind ≡ word_in (map (λ k. (k.0.now, k.1)) l.initial.table) l.kind
-
-abbrev pub decreases-loop-table : goal.decreases-loop-table
-decreases-loop-table l = length l.table

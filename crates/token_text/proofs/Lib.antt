@@ -1,4 +1,0 @@
-pub mod CutLemmas
-pub mod FixedLemmas
-pub mod QuoteLemmas
-pub mod StandLemmas
