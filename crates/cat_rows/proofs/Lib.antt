@@ -1,4 +1,6 @@
 pub mod RoomLemmas
 pub mod FitLemmas
+pub mod TableLemmas
 pub mod EarlierLemmas
+pub mod PartLemmas
 pub mod RiseLemmas

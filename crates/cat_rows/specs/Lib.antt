@@ -2,6 +2,8 @@ pub mod Keys
 pub mod Validities
 pub mod Tables
 pub mod Batches
+pub mod ByTable
 pub mod Places
 pub mod Steps
 pub mod Seen
+pub mod Parts

@@ -10,6 +10,7 @@ mod fitting;
 mod history;
 mod inlined;
 mod key_order;
+pub mod laws;
 mod schemas;
 
 pub use applying::{apply_batch, apply_reserved, reserve_batch};

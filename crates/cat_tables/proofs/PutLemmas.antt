@@ -34,7 +34,7 @@ module _ {R : Type 0} (key : R → List ℕ) where
       go Equal p q = absurd (true≢false q)
       go Greater p q = refl
 
-  all_weaker : (P Q : R → Type 0) → ((r : R) → P r → Q r) → (rs : List R) → AllByRecursion P rs → AllByRecursion Q rs
+  pub all_weaker : (P Q : R → Type 0) → ((r : R) → P r → Q r) → (rs : List R) → AllByRecursion P rs → AllByRecursion Q rs
   all_weaker P Q f [] h = tt
   all_weaker P Q f (r ∷ rs) h = (f r h.0, all_weaker P Q f rs h.1)
 

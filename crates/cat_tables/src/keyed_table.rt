@@ -71,14 +71,16 @@ fn put_row<R: Keyed>(rows: &mut Vec<R>, row: R)
     let _put = rows.insert(at, row).is_ok();
 }
 
-fn remove_row<R: Keyed>(rows: &mut Vec<R>, key: &R::Key)
+fn take_row<R: Keyed>(rows: &mut Vec<R>, key: &R::Key) -> Option<R>
     requires { RisesByKey R.key rows.old.items }
+    ensures row { result ≡ row_of R.key (R.parts key.now) rows.old.items }
     ensures rows { rows.new.items ≡ without R.key (R.parts key.now) rows.old.items }
     ensures len { vec_len rows.new ≤ vec_len rows.old }
     ensures room { vec_capacity rows.new ≡ vec_capacity rows.old }
 {
-    if let Some(at) = place_of(rows.as_slice(), key) {
-        rows.remove(at);
+    match place_of(rows.as_slice(), key) {
+        Some(at) => Some(rows.remove(at)),
+        None => None,
     }
 }
 
@@ -149,7 +151,16 @@ impl<R: Keyed> KeyedTable<R> {
         ensures rows { self.new.rows ≡ without R.key (R.parts key.now) self.old.rows }
         ensures room { self.old.room ≤ self.new.room }
     {
-        remove_row(&mut self.rows, key);
+        let _row = take_row(&mut self.rows, key);
+    }
+
+    /// Takes the row of a key out, if it is there.
+    pub fn take(&mut self, key: &R::Key) -> Option<R>
+        ensures row { result ≡ row_of R.key (R.parts key.now) self.old.rows }
+        ensures rows { self.new.rows ≡ without R.key (R.parts key.now) self.old.rows }
+        ensures room { self.old.room ≤ self.new.room }
+    {
+        take_row(&mut self.rows, key)
     }
 }
 
