@@ -3,4 +3,5 @@ pub mod FitLemmas
 pub mod TableLemmas
 pub mod EarlierLemmas
 pub mod PartLemmas
+pub mod SweepLemmas
 pub mod RiseLemmas

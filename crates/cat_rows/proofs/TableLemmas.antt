@@ -293,6 +293,10 @@ applied-scheduled_file b t =
     (fold-still ended (λ u. u.scheduled_file) (λ u e. still-scheduled_file u e.0 e.1) b.ends (fold removed t b.removes)
     ∙ fold-part removed (λ rs p. without scheduled_file_key p rs) (λ u. u.scheduled_file) scheduled_file_parts removed-scheduled_file b.removes t)
 
+-- the tables once the rows of some keys are taken away
+pub removed-by_table : (ks : List Key) (t : Tables) → fold removed t ks ≡ record { metadata = all_removed metadata_key (filter_map metadata_parts ks) t.metadata; snapshot = all_removed snapshot_key (filter_map snapshot_parts ks) t.snapshot; snapshot_changes = all_removed snapshot_changes_key (filter_map snapshot_changes_parts ks) t.snapshot_changes; schema = all_removed schema_key (filter_map schema_parts ks) t.schema; table = all_removed table_key (filter_map table_parts ks) t.table; column = all_removed column_key (filter_map column_parts ks) t.column; data_file = all_removed data_file_key (filter_map data_file_parts ks) t.data_file; delete_file = all_removed delete_file_key (filter_map delete_file_parts ks) t.delete_file; file_column_stats = all_removed file_column_stats_key (filter_map file_column_stats_parts ks) t.file_column_stats; table_stats = all_removed table_stats_key (filter_map table_stats_parts ks) t.table_stats; inlined_row = all_removed inlined_row_key (filter_map inlined_row_parts ks) t.inlined_row; scheduled_file = all_removed scheduled_file_key (filter_map scheduled_file_parts ks) t.scheduled_file }
+removed-by_table ks t = λ i. record { metadata = fold-part removed (λ rs p. without metadata_key p rs) (λ u. u.metadata) metadata_parts removed-metadata ks t i; snapshot = fold-part removed (λ rs p. without snapshot_key p rs) (λ u. u.snapshot) snapshot_parts removed-snapshot ks t i; snapshot_changes = fold-part removed (λ rs p. without snapshot_changes_key p rs) (λ u. u.snapshot_changes) snapshot_changes_parts removed-snapshot_changes ks t i; schema = fold-part removed (λ rs p. without schema_key p rs) (λ u. u.schema) schema_parts removed-schema ks t i; table = fold-part removed (λ rs p. without table_key p rs) (λ u. u.table) table_parts removed-table ks t i; column = fold-part removed (λ rs p. without column_key p rs) (λ u. u.column) column_parts removed-column ks t i; data_file = fold-part removed (λ rs p. without data_file_key p rs) (λ u. u.data_file) data_file_parts removed-data_file ks t i; delete_file = fold-part removed (λ rs p. without delete_file_key p rs) (λ u. u.delete_file) delete_file_parts removed-delete_file ks t i; file_column_stats = fold-part removed (λ rs p. without file_column_stats_key p rs) (λ u. u.file_column_stats) file_column_stats_parts removed-file_column_stats ks t i; table_stats = fold-part removed (λ rs p. without table_stats_key p rs) (λ u. u.table_stats) table_stats_parts removed-table_stats ks t i; inlined_row = fold-part removed (λ rs p. without inlined_row_key p rs) (λ u. u.inlined_row) inlined_row_parts removed-inlined_row ks t i; scheduled_file = fold-part removed (λ rs p. without scheduled_file_key p rs) (λ u. u.scheduled_file) scheduled_file_parts removed-scheduled_file ks t i }
+
 -- all tables at once
 pub applied-by_table : AppliesByTable
 applied-by_table b t = λ i. record { metadata = applied-metadata b t i; snapshot = applied-snapshot b t i; snapshot_changes = applied-snapshot_changes b t i; schema = applied-schema b t i; table = applied-table b t i; column = applied-column b t i; data_file = applied-data_file b t i; delete_file = applied-delete_file b t i; file_column_stats = applied-file_column_stats b t i; table_stats = applied-table_stats b t i; inlined_row = applied-inlined_row b t i; scheduled_file = applied-scheduled_file b t i }

@@ -4,6 +4,7 @@ pub mod Tables
 pub mod Batches
 pub mod ByTable
 pub mod Places
+pub mod Sweeping
 pub mod Steps
 pub mod Seen
 pub mod Parts

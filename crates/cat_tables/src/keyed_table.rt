@@ -1,5 +1,7 @@
 ghost use Rattle.std.specs.Prelude.{◌≡◌, ◌≤◌, ◌<◌, ◌+◌, ◌-◌, [], true, OnOk, IfSome, IfNone, length, vec_len, vec_capacity, if◌then◌else◌};
+ghost use Rattle.std.specs.Fn.{CalledAt};
 ghost use Rattle.std.specs.List.{HoldsAt, prefix_len};
+ghost use Rattle.std.specs.List.Retain.{IsFiltered};
 ghost use Rattle.std.specs.Option.{option_copied};
 ghost use Rattle.std.specs.Ordering.{is_lt};
 ghost use Rattle.cat_tables.specs.Table.{RisesByKey, LacksKey, has_key, key_cmp, row_of, put, without, edited};
@@ -152,6 +154,15 @@ impl<R: Keyed> KeyedTable<R> {
         ensures room { self.old.room ≤ self.new.room }
     {
         let _row = take_row(&mut self.rows, key);
+    }
+
+    /// Keeps the rows of which the test says `true`, in one pass.
+    pub fn retain<F: FnMut(&R) -> bool>(&mut self, test: F)
+        requires { F.IsAlwaysCallable test }
+        ensures rows { IsFiltered (CalledAt F.FnMut) test self.old.rows self.new.rows }
+        ensures room { self.old.room ≤ self.new.room }
+    {
+        self.rows.retain(test);
     }
 
     /// Takes the row of a key out, if it is there.

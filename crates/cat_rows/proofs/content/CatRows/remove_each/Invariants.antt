@@ -1,7 +1,7 @@
 use Rattle.std.proofs.Common.{◌≡◌, take}
 use Rattle.std.specs.Prelude.{fold}
 use Rattle.cat_rows.specs.Batches.{KeepsRoom, tables_of, removed}
-use Rattle.cat_rows.proofs.content.CatRows.remove_all.Given as goal
+use Rattle.cat_rows.proofs.content.CatRows.remove_each.Given as goal
 
 abbrev pub invariant-loop-key : goal.invariant-loop-key
 invariant-loop-key l = record {
