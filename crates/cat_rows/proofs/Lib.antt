@@ -1,4 +1,7 @@
 pub mod RoomLemmas
 pub mod FitLemmas
+pub mod TableLemmas
 pub mod EarlierLemmas
+pub mod PartLemmas
+pub mod SweepLemmas
 pub mod RiseLemmas

@@ -2,6 +2,9 @@ pub mod Keys
 pub mod Validities
 pub mod Tables
 pub mod Batches
+pub mod ByTable
 pub mod Places
+pub mod Sweeping
 pub mod Steps
 pub mod Seen
+pub mod Parts

@@ -1,5 +1,5 @@
 -- What the steps of a batch say of each other.
-use Rattle.std.specs.Prelude.{◌≤◌, ◌&&◌, ◌||◌, ℕ, Bool, true, not, List, [], ◌∷◌}
+use Rattle.std.specs.Prelude.{◌≤◌, ◌&&◌, ◌||◌, ℕ, Bool, true, not, List, [], ◌∷◌, Option, is_some}
 use Rattle.std.specs.List.{list_all, list_any, slice_index}
 use Rattle.std.specs.Ordering.{is_eq, is_lt}
 use Rattle.cat_tables.specs.Table.{LacksKey, key_cmp}
@@ -89,6 +89,10 @@ is_same k l = is_eq (key_cmp (place k) (place l))
 -- whether one of these has a key of these place
 abbrev pub has_place : {X : Type 0} → (X → Key) → List X → List ℕ → Bool
 has_place key_in xs k = list_any (λ x. is_eq (key_cmp (place (key_in x)) k)) xs
+
+-- whether one of these keys is picked
+abbrev pub any_picked : (Key → Option (List ℕ)) → List Key → Bool
+any_picked pick keys = list_any (λ k. is_some (pick k)) keys
 
 -- whether one of these keys is this one
 abbrev pub is_among : List Key → Key → Bool

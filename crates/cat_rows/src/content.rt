@@ -1,10 +1,11 @@
-ghost use Rattle.std.specs.Prelude.{◌≡◌, ◌<◌, ◌≤◌, ◌+◌, fold, IfOk, OnOk};
+ghost use Rattle.std.specs.Prelude.{◌≡◌, ◌<◌, ◌≤◌, ◌+◌, true, fold, IfOk, OnOk};
 ghost use Rattle.std.specs.Option.{option_copied};
 ghost use Rattle.cat_tables.specs.Table.{RisesByKey};
 ghost use Rattle.cat_rows.specs.Batches.{tables_of, added, removed, ended, Covers, KeepsRoom};
 ghost use Rattle.cat_rows.specs.Batches.{holds, has_no_end, is_open, key_of};
 ghost use Rattle.cat_rows.specs.Keys as keys;
 ghost use Rattle.cat_rows.specs.Tables.{no_rows};
+ghost use Rattle.cat_rows.specs.Steps.{rises as rises_by_place};
 ghost use Rattle.cat_rows.specs.Steps.{room_for, with_row, IsFresh, AreFresh};
 ghost use Rattle.cat_rows.specs.Steps.{with_history, with_schemas, with_files};
 ghost use Rattle.cat_rows.specs.Steps.{CoversHistory, CoversSchemas, CoversFiles};
@@ -14,12 +15,17 @@ use crate::cat_table::{CatTable, count_of};
 use crate::files::{
     DataFileRow, DeleteFileRow, FileColumnStatsRow, ScheduledFileRow, TableStatsRow,
 };
+use crate::fitting::rises;
 use crate::history::{MetadataRow, SnapshotChangesRow, SnapshotRow};
 use crate::inlined::InlinedRow;
 use crate::schemas::{ColumnRow, SchemaRow, TableRow};
+use crate::sweeping::remove_listed;
 use cat_tables::{Keyed, KeyedTable, Versioned};
 use lake_types::{Copied, NoMemory};
 use std::alloc::Global;
+
+/// The most rows that are taken away one by one.
+const MAX_SINGLE_REMOVALS: usize = 8;
 
 /// All rows of the catalogue, by table and key.
 #[derive(Debug, Drop)]
@@ -309,12 +315,45 @@ impl CatRows {
         }
     }
 
-    pub(crate) fn remove_all(&mut self, keys: &[Key])
+    fn remove_each(&mut self, keys: &[Key])
         ensures rows { tables_of self.new ≡ fold removed (tables_of self.old) keys.now }
         ensures room { KeepsRoom self.old self.new }
     {
         for key in keys {
             self.remove(key);
+        }
+    }
+
+    /// The same of keys that rise, in one pass over each table that they are of.
+    fn sweep(&mut self, keys: &[Key])
+        requires { rises_by_place (λ k. k) keys.now ≡ true }
+        ensures rows { tables_of self.new ≡ fold removed (tables_of self.old) keys.now }
+        ensures room { KeepsRoom self.old self.new }
+    {
+        remove_listed(&mut self.metadata, keys);
+        remove_listed(&mut self.snapshot, keys);
+        remove_listed(&mut self.snapshot_changes, keys);
+        remove_listed(&mut self.schema, keys);
+        remove_listed(&mut self.table, keys);
+        remove_listed(&mut self.column, keys);
+        remove_listed(&mut self.data_file, keys);
+        remove_listed(&mut self.delete_file, keys);
+        remove_listed(&mut self.file_column_stats, keys);
+        remove_listed(&mut self.table_stats, keys);
+        remove_listed(&mut self.inlined_row, keys);
+        remove_listed(&mut self.scheduled_file, keys);
+    }
+
+    /// Takes away the rows of keys. A row that is taken away alone moves those behind it, so many keys go in one pass,
+    /// where they rise.
+    pub(crate) fn remove_all(&mut self, keys: &[Key])
+        ensures rows { tables_of self.new ≡ fold removed (tables_of self.old) keys.now }
+        ensures room { KeepsRoom self.old self.new }
+    {
+        if keys.len() > MAX_SINGLE_REMOVALS && rises(keys) {
+            self.sweep(keys);
+        } else {
+            self.remove_each(keys);
         }
     }
 

@@ -9,7 +9,7 @@ use crate::content::CatRows;
 use crate::key_order::{KeyRef, order};
 
 /// What stands in a batch for a key.
-trait HasKey {
+pub(crate) trait HasKey {
     ghost use Rattle.cat_rows.specs.declared.batch.Key.{Key};
 
     ghost key: { Self → Key };
@@ -43,7 +43,7 @@ impl HasKey for CatRow {
 }
 
 /// Whether the keys rise, which a batch's lists mostly do.
-fn rises<T: HasKey>(items: &[T]) -> bool
+pub(crate) fn rises<T: HasKey>(items: &[T]) -> bool
     ensures { result ≡ steps.rises T.key items.now }
 {
     let Some((mut last, others)) = items.split_first() else {
@@ -66,7 +66,7 @@ fn has_key<T: HasKey>(items: &[T], key: KeyRef<'_>) -> bool
 }
 
 /// The same of keys that rise.
-fn has_key_in_order<T: HasKey>(items: &[T], key: KeyRef<'_>) -> bool
+pub(crate) fn has_key_in_order<T: HasKey>(items: &[T], key: KeyRef<'_>) -> bool
     requires { steps.rises T.key items.now ≡ true }
     ensures { result ≡ steps.has_place T.key items.now (steps.ref_place key.entry) }
 {

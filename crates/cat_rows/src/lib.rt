@@ -10,7 +10,9 @@ mod fitting;
 mod history;
 mod inlined;
 mod key_order;
+pub mod laws;
 mod schemas;
+mod sweeping;
 
 pub use applying::{apply_batch, apply_reserved, reserve_batch};
 pub use batch::{Batch, CatRow, CatRowList, EndList, Key, KeyList};

@@ -4,4 +4,5 @@ pub mod RowLemmas
 pub mod KeyLemmas
 pub mod FrameLemmas
 pub mod NowLemmas
+pub mod SightLemmas
 pub mod TellsLemmas

@@ -5,26 +5,22 @@ use Rattle.std.specs.List.{AllByRecursion}
 use Rattle.std.proofs.lemmas.Bool.{and_right, le-ltb}
 use Rattle.std.proofs.lemmas.Cmp.{nat_list_cmp_total}
 use Rattle.cat_tables.specs.Table.{key_cmp, put, edited, without, has_key, IsBelow, RisesByKey}
-use Rattle.cat_tables.specs.Validity.{Validity, IsValidity, is_visible, visible_at, ended_at, is_before}
+use Rattle.cat_tables.specs.Validity.{Validity, IsValidity, EndsBy, is_visible, visible_at, ended_at, is_before}
 use Rattle.cat_tables.proofs.PlaceLemmas.{less_is}
 
--- the row has no end past n
-abbrev pub IsOver : ℕ → Option ℕ → Type 0
-IsOver n None = Unit {0}
-IsOver n (Some e) = e ≤ n
-
 module _ {R : Type 0} (key : R → List ℕ) (v : Validity R) (laws : IsValidity v key) where
-  ended_unseen : (n : ℕ) (r : R) → IsOver n (v.end r) → is_visible v (n + 1) (ended_at v (n + 1) r) ≡ false
+  ended_unseen : (n : ℕ) (r : R) → EndsBy n (v.end r) → is_visible v n (ended_at v n r) ≡ false
   ended_unseen n r h = go (v.end r) refl h
     where
-      go : (e : Option ℕ) → v.end r ≡ e → IsOver n e → is_visible v (n + 1) (cond (is_none e) (v.with_end (Some (n + 1)) r) r) ≡ false
-      go None q h = and_right _ _ (ap (is_before (n + 1)) (laws.end_is (Some (n + 1)) r) ∙ le-ltb (n + 1) (n + 1) (omega arith))
-      go (Some m) q h = and_right _ _ (ap (is_before (n + 1)) q ∙ le-ltb (n + 1) m (omega arith))
+      go : (e : Option ℕ) → v.end r ≡ e → EndsBy n e → is_visible v n (cond (is_none e) (v.with_end (Some n) r) r) ≡ false
+      go None q h = and_right _ _ (ap (is_before n) (laws.end_is (Some n) r) ∙ le-ltb n n (omega arith))
+      go (Some m) q h = and_right _ _ (ap (is_before n) q ∙ le-ltb n m (omega arith))
 
   same_key : (k : List ℕ) (r : R) → has_key key k (v.with_end None r) ≡ has_key key k r
   same_key k r = ap (λ a. is_eq (key_cmp a k)) (laws.key_stays None r)
 
-  pub visible_at-edited_now : (n : ℕ) (k : List ℕ) (rs : List R) → AllByRecursion (λ r. IsOver n (v.end r)) rs → visible_at v (n + 1) (edited key (ended_at v (n + 1)) k rs) ≡ without key k (visible_at v (n + 1) rs)
+  -- a row that ends at n is gone there, where no row ends past n
+  pub visible_at-edited_now : (n : ℕ) (k : List ℕ) (rs : List R) → AllByRecursion (λ r. EndsBy n (v.end r)) rs → visible_at v n (edited key (ended_at v n) k rs) ≡ without key k (visible_at v n rs)
   visible_at-edited_now n k [] h = refl
   visible_at-edited_now n k (r ∷ rs) h = go (has_key key k r) refl (visible_at-edited_now n k rs h.1)
     where
@@ -36,12 +32,12 @@ module _ {R : Type 0} (key : R → List ℕ) (v : Validity R) (laws : IsValidity
       kept true xs ys e m = ap (λ l. v.with_end None r ∷ l) m ∙ ap (λ t. cond (not t) (v.with_end None r ∷ without key k (map (v.with_end None) xs)) (without key k (map (v.with_end None) xs))) (sym (same_key k r ∙ e))
       kept false xs ys e m = m
 
-      go : (b : Bool) → has_key key k r ≡ b → visible_at v (n + 1) (edited key (ended_at v (n + 1)) k rs) ≡ without key k (visible_at v (n + 1) rs)
-          → visible_at v (n + 1) (cond b (ended_at v (n + 1) r) r ∷ edited key (ended_at v (n + 1)) k rs) ≡ without key k (visible_at v (n + 1) (r ∷ rs))
+      go : (b : Bool) → has_key key k r ≡ b → visible_at v n (edited key (ended_at v n) k rs) ≡ without key k (visible_at v n rs)
+          → visible_at v n (cond b (ended_at v n r) r ∷ edited key (ended_at v n) k rs) ≡ without key k (visible_at v n (r ∷ rs))
       go true e more =
-          ap (λ t. map (v.with_end None) (cond t (ended_at v (n + 1) r ∷ filter (is_visible v (n + 1)) (edited key (ended_at v (n + 1)) k rs)) (filter (is_visible v (n + 1)) (edited key (ended_at v (n + 1)) k rs)))) (ended_unseen n r h.0)
-          ∙ more ∙ gone (is_visible v (n + 1) r) (filter (is_visible v (n + 1)) rs) e
-      go false e more = kept (is_visible v (n + 1) r) (filter (is_visible v (n + 1)) rs) (filter (is_visible v (n + 1)) (edited key (ended_at v (n + 1)) k rs)) e more
+          ap (λ t. map (v.with_end None) (cond t (ended_at v n r ∷ filter (is_visible v n) (edited key (ended_at v n) k rs)) (filter (is_visible v n) (edited key (ended_at v n) k rs)))) (ended_unseen n r h.0)
+          ∙ more ∙ gone (is_visible v n r) (filter (is_visible v n) rs) e
+      go false e more = kept (is_visible v n r) (filter (is_visible v n) rs) (filter (is_visible v n) (edited key (ended_at v n) k rs)) e more
 
   -- no row is below the new one
   abbrev NoneBelow : R → List R → Type 0

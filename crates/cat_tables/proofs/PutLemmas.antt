@@ -1,6 +1,7 @@
 -- A row put at its place.
 use Rattle.std.proofs.Common.{◌≡◌, ℕ, suc, ◌+◌, Bool, true, false, cond, List, [], ◌∷◌, map, filter, refl, sym, ap, ap₂, subst, ◌∙◌, Ordering, Less, Equal, Greater, is_lt, is_eq, true≢false, arith}
-use Rattle.std.specs.List.{AllByRecursion, insert, prefix_len}
+use Rattle.std.specs.List.{AllByRecursion, insert, items_where_true, prefix_len}
+use Rattle.std.specs.List.Retain.{IsFiltered}
 use Rattle.std.specs.Ordering.{ordering_reverse}
 use Rattle.std.proofs.lemmas.Cmp.{nat_list_cmp_total}
 use Rattle.cat_tables.proofs.PlaceLemmas.{less_is}
@@ -34,7 +35,7 @@ module _ {R : Type 0} (key : R → List ℕ) where
       go Equal p q = absurd (true≢false q)
       go Greater p q = refl
 
-  all_weaker : (P Q : R → Type 0) → ((r : R) → P r → Q r) → (rs : List R) → AllByRecursion P rs → AllByRecursion Q rs
+  pub all_weaker : (P Q : R → Type 0) → ((r : R) → P r → Q r) → (rs : List R) → AllByRecursion P rs → AllByRecursion Q rs
   all_weaker P Q f [] h = tt
   all_weaker P Q f (r ∷ rs) h = (f r h.0, all_weaker P Q f rs h.1)
 
@@ -78,6 +79,22 @@ module _ {R : Type 0} (key : R → List ℕ) where
   RisesByKey-filter p (r ∷ rs) up =
       elim (p r) as (λ b. RisesByKey key (cond b (r ∷ filter p rs) (filter p rs)))
       [ true ↦ (all-filter (IsBelow key r) p rs up.0, RisesByKey-filter p rs up.1) | false ↦ RisesByKey-filter p rs up.1 ]
+
+  all-where_true : (P : R → Type 0) (bs : List Bool) (rs : List R) → AllByRecursion P rs → AllByRecursion P (items_where_true bs rs)
+  all-where_true P [] rs h = tt
+  all-where_true P (b ∷ bs) [] h = tt
+  all-where_true P (true ∷ bs) (r ∷ rs) h = (h.0, all-where_true P bs rs h.1)
+  all-where_true P (false ∷ bs) (r ∷ rs) h = all-where_true P bs rs h.1
+
+  RisesByKey-where_true : (bs : List Bool) (rs : List R) → RisesByKey key rs → RisesByKey key (items_where_true bs rs)
+  RisesByKey-where_true [] rs up = tt
+  RisesByKey-where_true (b ∷ bs) [] up = tt
+  RisesByKey-where_true (true ∷ bs) (r ∷ rs) up = (all-where_true (IsBelow key r) bs rs up.0, RisesByKey-where_true bs rs up.1)
+  RisesByKey-where_true (false ∷ bs) (r ∷ rs) up = RisesByKey-where_true bs rs up.1
+
+  -- so does what a test leaves
+  pub RisesByKey-filtered : {F : Type 0} (step : F → R → Bool → F → Type 0) (f : F) (rs qs : List R) → IsFiltered step f rs qs → RisesByKey key rs → RisesByKey key qs
+  RisesByKey-filtered step f rs qs h up = subst (RisesByKey key) (sym h.4) (RisesByKey-where_true h.0 rs up)
 
   -- an edit that keeps the keys keeps the order
   pub RisesByKey-edited : (f : R → R) (k : List ℕ) → ((r : R) → key (f r) ≡ key r) → (rs : List R) → RisesByKey key rs → RisesByKey key (edited key f k rs)

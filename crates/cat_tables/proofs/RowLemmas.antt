@@ -2,6 +2,7 @@
 use Rattle.std.proofs.Common.{◌≡◌, ℕ, Bool, true, false, cond, not, List, [], ◌∷◌, refl, sym, ap, ◌∙◌, Option, Some, None, is_some, is_lt, is_eq, true≢false}
 use Rattle.std.proofs.lemmas.Cmp.{nat_list_cmp_total}
 use Rattle.cat_tables.specs.Table.{key_cmp, LacksKey, has_key, row_of, put, without, edited}
+use Rattle.cat_tables.proofs.KeyLemmas.{key_eq}
 use Rattle.cat_tables.proofs.PlaceLemmas.{equal_is}
 
 is_some_not : {X : Type 0} (b : Bool) (x : X) (o : Option X) → is_some (cond b (Some x) o) ≡ false → (b ≡ false) × (is_some o ≡ false)
@@ -13,6 +14,24 @@ module _ {R : Type 0} (key : R → List ℕ) where
   pub LacksKey-row_of : (k : List ℕ) (rs : List R) → is_some (row_of key k rs) ≡ false → LacksKey key k rs
   LacksKey-row_of k [] h = tt
   LacksKey-row_of k (r ∷ rs) h = let both = is_some_not (has_key key k r) r (row_of key k rs) h in (both.0, LacksKey-row_of k rs both.1)
+
+  pub LacksKey-none : (k : List ℕ) (rs : List R) → row_of key k rs ≡ None → LacksKey key k rs
+  LacksKey-none k rs e = LacksKey-row_of k rs (ap is_some e)
+
+  -- the row that is found has the key
+  pub has_key-row_of : (k : List ℕ) (rs : List R) (r : R) → row_of key k rs ≡ Some r → has_key key k r ≡ true
+  has_key-row_of k [] r e = absurd (cc e)
+  has_key-row_of k (x ∷ rs) r e = go (has_key key k x) refl e (has_key-row_of k rs r)
+    where
+      found : (x : R) → Some x ≡ Some r → x ≡ r
+      found x e = cc e
+
+      go : (b : Bool) → has_key key k x ≡ b → cond b (Some x) (row_of key k rs) ≡ Some r → (row_of key k rs ≡ Some r → has_key key k r ≡ true) → has_key key k r ≡ true
+      go true is e more = ap (has_key key k) (sym (found x e)) ∙ is
+      go false is e more = more e
+
+  pub key-row_of : (k : List ℕ) (rs : List R) (r : R) → row_of key k rs ≡ Some r → key r ≡ k
+  key-row_of k rs r e = key_eq (key r) k (has_key-row_of k rs r e)
 
   -- a row with another key, put among them
   pub row_of-put : (new : R) (k : List ℕ) (rs : List R) → has_key key k new ≡ false → row_of key k (put key new rs) ≡ row_of key k rs

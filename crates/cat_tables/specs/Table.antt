@@ -1,5 +1,5 @@
 -- The rows of one table, rising by their keys, and the three edits that a batch makes of them.
-use Rattle.std.specs.Prelude.{◌≡◌, ℕ, Bool, false, not, List, [], ◌∷◌, filter, find, fold, map, Option, if◌then◌else◌, ⊤, refl}
+use Rattle.std.specs.Prelude.{◌≡◌, ℕ, Bool, true, false, not, List, [], ◌∷◌, filter, find, fold, map, Option, if◌then◌else◌, ⊤, refl}
 use Rattle.std.specs.Cmp.Lexicographic.{slice_cmp}
 use Rattle.std.specs.Coded.{Coded, code_by, coded×, coded_list, coded_ℕ}
 use Rattle.std.specs.List.{AllByRecursion}
@@ -51,6 +51,13 @@ module _ {R : Type 0} (key : R → List ℕ) where
   -- the rows, with each of these at its place
   abbrev pub put_all : List R → List R → List R
   put_all news rows = fold (λ rs r. put r rs) rows news
+
+  -- each new row's key is past those of all rows and of the new rows before it
+  abbrev pub ArePast : List R → List R → Type 0
+  ArePast [] rows = ⊤
+  ArePast (new ∷ news) rows =
+      AllByRecursion (λ r. is_lt (key_cmp (key r) (key new)) ≡ true) rows
+      × AllByRecursion (λ r. is_lt (key_cmp (key new) (key r)) ≡ true) news × ArePast news rows
 
   -- the rows without the one of this key
   abbrev pub without : List ℕ → List R → List R

@@ -1,6 +1,6 @@
 -- Rows with a validity interval: each is valid from the snapshot at which it begins until the one at which it
 -- ends, or for good. What a snapshot sees of them.
-use Rattle.std.specs.Prelude.{◌≡◌, ◌≢◌, ◌+◌, ℕ, Bool, true, false, ◌&&◌, List, map, filter, fold, Option, Some, None, nat_lt, nat_le, if◌then◌else◌, is_none}
+use Rattle.std.specs.Prelude.{◌≡◌, ◌≢◌, ◌≤◌, ◌+◌, ℕ, Bool, true, false, ◌&&◌, List, map, filter, fold, Option, Some, None, nat_lt, nat_le, if◌then◌else◌, is_none}
 use Rattle.std.specs.List.{AllByRecursion}
 use Rattle.cat_tables.specs.Table.{edited, has_key}
 
@@ -14,6 +14,15 @@ pub record Validity (R : Type 0) : Type 0 where
 abbrev pub is_before : ℕ → Option ℕ → Bool
 is_before s None = true
 is_before s (Some n) = nat_lt s n
+
+-- there is no end past n
+abbrev pub EndsBy : ℕ → Option ℕ → Type 0
+EndsBy n None = Unit {0}
+EndsBy n (Some e) = e ≤ n
+
+-- these rows end at one snapshot
+abbrev pub ends_at : {R : Type 0} → (R → List ℕ) → ℕ → List R → List (List ℕ × ℕ)
+ends_at key n rows = map (λ r. (key r, n)) rows
 
 module _ {R : Type 0} (v : Validity R) where
   -- the interval holds s: the row begins at s or before, and ends past it or never
@@ -31,6 +40,14 @@ module _ {R : Type 0} (v : Validity R) where
   -- the rows of these keys end there
   abbrev pub all_ended : (R → List ℕ) → List (List ℕ × ℕ) → List R → List R
   all_ended key ends rows = fold (λ rs e. edited key (ended_at e.1) e.0 rs) rows ends
+
+  -- the row neither begins nor ends past n
+  abbrev pub IsBy : ℕ → R → Type 0
+  IsBy n r = (v.begin r ≤ n) × EndsBy n (v.end r)
+
+  -- the row begins at n, and has no end
+  abbrev pub IsNew : ℕ → R → Type 0
+  IsNew n r = (v.begin r ≡ n) × (v.end r ≡ None)
 
   -- s doesn't see the row of a key
   abbrev pub IsUnseen : (R → List ℕ) → ℕ → List ℕ → List R → Type 0
@@ -50,3 +67,4 @@ pub record IsValidity {R : Type 0} (v : Validity R) (key : R → List ℕ) : Typ
   pub end_is : (e : Option ℕ) (r : R) → v.end (v.with_end e r) ≡ e
   pub last_end : (e f : Option ℕ) (r : R) → v.with_end e (v.with_end f r) ≡ v.with_end e r
   pub key_stays : (e : Option ℕ) (r : R) → key (v.with_end e r) ≡ key r
+  pub opens : (r : R) → v.end r ≡ None → v.with_end None r ≡ r

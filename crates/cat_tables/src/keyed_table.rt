@@ -1,5 +1,7 @@
 ghost use Rattle.std.specs.Prelude.{◌≡◌, ◌≤◌, ◌<◌, ◌+◌, ◌-◌, [], true, OnOk, IfSome, IfNone, length, vec_len, vec_capacity, if◌then◌else◌};
+ghost use Rattle.std.specs.Fn.{CalledAt};
 ghost use Rattle.std.specs.List.{HoldsAt, prefix_len};
+ghost use Rattle.std.specs.List.Retain.{IsFiltered};
 ghost use Rattle.std.specs.Option.{option_copied};
 ghost use Rattle.std.specs.Ordering.{is_lt};
 ghost use Rattle.cat_tables.specs.Table.{RisesByKey, LacksKey, has_key, key_cmp, row_of, put, without, edited};
@@ -71,14 +73,16 @@ fn put_row<R: Keyed>(rows: &mut Vec<R>, row: R)
     let _put = rows.insert(at, row).is_ok();
 }
 
-fn remove_row<R: Keyed>(rows: &mut Vec<R>, key: &R::Key)
+fn take_row<R: Keyed>(rows: &mut Vec<R>, key: &R::Key) -> Option<R>
     requires { RisesByKey R.key rows.old.items }
+    ensures row { result ≡ row_of R.key (R.parts key.now) rows.old.items }
     ensures rows { rows.new.items ≡ without R.key (R.parts key.now) rows.old.items }
     ensures len { vec_len rows.new ≤ vec_len rows.old }
     ensures room { vec_capacity rows.new ≡ vec_capacity rows.old }
 {
-    if let Some(at) = place_of(rows.as_slice(), key) {
-        rows.remove(at);
+    match place_of(rows.as_slice(), key) {
+        Some(at) => Some(rows.remove(at)),
+        None => None,
     }
 }
 
@@ -149,7 +153,25 @@ impl<R: Keyed> KeyedTable<R> {
         ensures rows { self.new.rows ≡ without R.key (R.parts key.now) self.old.rows }
         ensures room { self.old.room ≤ self.new.room }
     {
-        remove_row(&mut self.rows, key);
+        let _row = take_row(&mut self.rows, key);
+    }
+
+    /// Keeps the rows of which the test says `true`, in one pass.
+    pub fn retain<F: FnMut(&R) -> bool>(&mut self, test: F)
+        requires { F.IsAlwaysCallable test }
+        ensures rows { IsFiltered (CalledAt F.FnMut) test self.old.rows self.new.rows }
+        ensures room { self.old.room ≤ self.new.room }
+    {
+        self.rows.retain(test);
+    }
+
+    /// Takes the row of a key out, if it is there.
+    pub fn take(&mut self, key: &R::Key) -> Option<R>
+        ensures row { result ≡ row_of R.key (R.parts key.now) self.old.rows }
+        ensures rows { self.new.rows ≡ without R.key (R.parts key.now) self.old.rows }
+        ensures room { self.old.room ≤ self.new.room }
+    {
+        take_row(&mut self.rows, key)
     }
 }
 

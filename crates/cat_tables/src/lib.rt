@@ -4,6 +4,7 @@
 
 mod keyed;
 mod keyed_table;
+pub mod laws;
 mod versioned;
 
 pub use keyed::Keyed;

@@ -198,6 +198,10 @@ bound_has_text s ty cells bound all e = go bound (rw e (cells_bound s ty cells a
   go None h = tt
   go (Some v) h = has_text ty v (All-contains (IsOf ty) (values cells) v (values_are ty cells all) h.0)
 
+pub kept_has_text : (bound : Option Value) → IfSome bound HasText → IfSome (kept bound) HasText
+kept_has_text None h = tt
+kept_has_text (Some v) h = elim (is_short v) as (λ b. IfSome (cond b (Some v) None) HasText) [ true ↦ h | false ↦ tt ]
+
 -- each cell of the rows fits the column's type
 cell_fits : (ty : ColType) (cell : Option Value) → IsThere ty cell → Fits ty (value_in cell)
 cell_fits ty None h = absurd h
@@ -206,10 +210,6 @@ cell_fits ty (Some v) h = h
 pub cells_fit : (column : Column) (rows : List Row) → All (HasCell column) rows → All (Fits column.ty) (cells column.field rows)
 cells_fit column rows all =
     All-map (Fits column.ty) (cell_in column.field) rows (λ i d lt. cell_fits column.ty (cell_at (get_or rows i d).cells column.field) (all i d lt))
-
--- one row has the cell
-pub one_row : (column : Column) (row : Row) → HasCell column row → All (HasCell column) (row ∷ [])
-one_row column row h = All-cons (HasCell column) row [] h (All-nil (HasCell column))
 
 -- ---- two lists
 

@@ -1,10 +1,11 @@
 -- The least and the greatest of some values.
-use Rattle.std.specs.Prelude.{◌≡◌, ◌≢◌, ℕ, ◌<◌, ◌≤◌, nat_le, Bool, true, false, List, [], length, map, ◌⊎◌, Option, Some, None, if◌then◌else◌}
+use Rattle.std.specs.Prelude.{◌≡◌, ◌≢◌, ℕ, ◌<◌, ◌≤◌, nat_le, Bool, true, false, List, [], length, map, option_map, ◌⊎◌, Option, Some, None, if◌then◌else◌}
 use Rattle.std.specs.List.{All, Contains, filter}
 use Rattle.lake_types.specs.Cells.{cell_at}
 use Rattle.lake_types.specs.Fits.{fits_some}
 use Rattle.lake_types.specs.Texts.{value_text}
 use Rattle.lake_types.specs.Truth.{compared, is_true}
+use Rattle.lake_types.specs.declared.limits.TheConstants.{MAX_BOUND_BYTES}
 use Rattle.lake_types.specs.declared.pred.Op.{Op}
 use Rattle.lake_types.specs.declared.pred.Op.TheVariants as op
 use Rattle.lake_types.specs.declared.truth.Truth.TheVariants.{True}
@@ -49,9 +50,9 @@ Bounds s v w = compared (op_of s) (Some v) w ≡ True
 abbrev pub IsBound : Side → List Value → Value → Type 0
 IsBound s values v = Contains values v × All (Bounds s v) values
 
--- the catalogue keeps texts of at most 64 bytes
+-- the catalogue keeps no longer text of a bound
 abbrev pub is_short : Value → Bool
-is_short v = nat_le (length (value_text v)) 64
+is_short v = nat_le (length (value_text v)) MAX_BOUND_BYTES
 
 -- a bound is absent where there is no value, or where its text is too long
 abbrev pub HasBound : Side → List Value → Option Value → Type 0
@@ -77,3 +78,13 @@ kept (Some v) = if is_short v then Some v else None
 -- a value that has a text in the catalogue
 abbrev pub HasText : Value → Type 0
 HasText v = (v ≢ value.Null) × (fits_some v ≡ true)
+
+-- ---- a statistics row
+
+-- the text of a bound
+abbrev pub bound_text : Option Value → Option (List ℕ)
+bound_text = option_map value_text
+
+-- the text of the bound of some values: none where there is no value, or where the text is too long
+abbrev pub HasBoundText : Side → List Value → Option (List ℕ) → Type 0
+HasBoundText s values text = (bound : Option Value) × HasBound s values bound × (text ≡ bound_text bound)

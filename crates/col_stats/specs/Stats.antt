@@ -1,5 +1,5 @@
 -- The statistics of a column's cells.
-use Rattle.std.specs.Prelude.{◌≡◌, ℕ, ◌<◌, ◌+◌, nat_lt, Bool, true, false, ◌||◌, List, ◌++◌, length, Option, Some, None, if◌then◌else◌}
+use Rattle.std.specs.Prelude.{◌≡◌, ℕ, ◌<◌, ◌+◌, nat_lt, Bool, true, false, ◌||◌, List, ◌++◌, length, Option, Some, None, IfSome, if◌then◌else◌}
 use Rattle.std.specs.List.{All, count_by}
 use Rattle.lake_types.specs.Cells.{cell_at}
 use Rattle.lake_types.specs.Fits.{fits}
@@ -8,7 +8,7 @@ use Rattle.lake_types.specs.declared.value.Column.{Column}
 use Rattle.lake_types.specs.declared.value.Row.{Row}
 use Rattle.lake_types.specs.declared.value.Value.{Value}
 use Rattle.lake_types.specs.declared.value.Value.TheVariants as value
-use Rattle.col_stats.specs.Bounds.{HasBound, outer, values}
+use Rattle.col_stats.specs.Bounds.{HasBound, HasBoundText, HasText, bound_text, outer, values}
 use Rattle.col_stats.specs.declared.bounds.Side.{Side}
 use Rattle.col_stats.specs.declared.bounds.Side.TheVariants as side
 use Rattle.col_stats.specs.declared.stats.ColStats.{ColStats}
@@ -34,6 +34,22 @@ pub record AreStats (cells : List Value) (stats : ColStats) : Type 0 where
   pub nulls : stats.nulls ≡ count_by is_null cells
   pub min : HasBound side.Least (values cells) stats.min
   pub max : HasBound side.Greatest (values cells) stats.max
+
+-- What a statistics row has beside the cells of its column: how many of them are NULL, and the texts of the bounds of
+-- the others.
+pub record IsCount (cells : List Value) (null_count : ℕ) (min_value max_value : Option (List ℕ)) : Type 0 where
+  pub nulls : null_count ≡ count_by is_null cells
+  pub min : HasBoundText side.Least (values cells) min_value
+  pub max : HasBoundText side.Greatest (values cells) max_value
+
+-- each bound that is there has a text
+pub record HasTexts (stats : ColStats) : Type 0 where
+  pub min : IfSome stats.min HasText
+  pub max : IfSome stats.max HasText
+
+-- the texts of statistics are those of a statistics row beside the cells
+abbrev pub CountsCells : Type 0
+CountsCells = (cells : List Value) (stats : ColStats) → AreStats cells stats → IsCount cells stats.nulls (bound_text stats.min) (bound_text stats.max)
 
 -- ---- of two lists
 

@@ -2,11 +2,9 @@ ghost use Rattle.std.specs.Prelude.{◌≡◌, IfOk, IfSome, None, fold};
 ghost use Rattle.std.specs.Option.{option_copied};
 ghost use Rattle.col_stats.specs.Bounds as spec;
 
-use lake_types::{Copied, NoMemory, Op, Row, Truth, Value, cell_at, compared, text_of};
+use lake_types::limits::MAX_BOUND_BYTES;
+use lake_types::{Copied, NoMemory, Op, Row, Truth, Value, Words, cell_at, compared, text_of};
 use std::alloc::Global;
-
-/// The longest text of a bound in the catalogue, in bytes.
-const MAX_BOUND_BYTES: usize = 64;
 
 /// One of the two bounds of some values.
 #[derive(Clone, Copy, Debug)]
@@ -67,6 +65,28 @@ pub fn outermost(side: Side, field: u32, rows: &[Row]) -> Option<&Value>
         bound = outer_cell(side, bound, cell_at(row.cells.as_slice(), field));
     }
     bound
+}
+
+/// The outermost value among some cells.
+pub fn outermost_cell(side: Side, cells: &[Value]) -> Option<&Value>
+    ensures { option_copied result ≡ fold (spec.outer_cell side) None cells.now }
+{
+    let mut bound: Option<&Value> = None;
+    for cell in cells {
+        bound = outer_cell(side, bound, Some(cell));
+    }
+    bound
+}
+
+/// The text of a bound in the catalogue; none where there is no bound.
+pub fn bound_text(alloc: Global, bound: &Option<Value>) -> Result<Option<Words>, NoMemory>
+    requires { IfSome bound.now spec.HasText }
+    ensures { IfOk result (λ text. text ≡ spec.bound_text bound.now) }
+{
+    match bound {
+        Some(value) => Ok(Some(text_of(alloc, value)?)),
+        None => Ok(None),
+    }
 }
 
 /// A copy of the bound, where its text is not too long for the catalogue.

@@ -6,7 +6,5 @@ mod bounds;
 pub mod laws;
 mod stats;
 
-pub use stats::{ColStats, merge_stats, stats_of};
-
-#[cfg(test)]
-mod tests;
+pub use bounds::bound_text;
+pub use stats::{ColStats, count_cells, merge_stats, stats_of};

@@ -3,7 +3,7 @@ ghost use Rattle.std.specs.List.{All, count_by};
 ghost use Rattle.col_stats.specs.Bounds.{cells};
 ghost use Rattle.col_stats.specs.Stats as spec;
 
-use crate::bounds::{Side, kept, outer, outermost};
+use crate::bounds::{Side, kept, outer, outermost, outermost_cell};
 use lake_types::{Column, Copied, NoMemory, Row, RowList, Value, cell_at, is_null};
 use std::alloc::Global;
 
@@ -48,6 +48,37 @@ pub fn stats_of(alloc: Global, column: &Column, rows: &RowList) -> Result<ColSta
         min,
         max,
     })
+}
+
+/// The statistics of a column over its cells, in time linear in them. Nothing is copied but the bounds, and each bound
+/// has a text in the catalogue.
+pub fn count_cells(alloc: Global, column: &Column, cells: &[Value]) -> Result<ColStats, NoMemory>
+    requires { All (spec.Fits column.now.ty) cells.now }
+    ensures field { IfOk result (λ stats. stats.field ≡ column.now.field) }
+    ensures stats { IfOk result (λ stats. spec.AreStats cells.now stats) }
+    ensures texts { IfOk result spec.HasTexts }
+{
+    let min = kept(alloc, outermost_cell(Side::Least, cells))?;
+    let max = kept(alloc, outermost_cell(Side::Greatest, cells))?;
+    Ok(ColStats {
+        field: column.field,
+        rows: cells.len() as u64,
+        nulls: nulls_in(cells),
+        min,
+        max,
+    })
+}
+
+fn nulls_in(cells: &[Value]) -> u64
+    ensures { result ≡ count_by spec.is_null cells.now }
+{
+    let mut nulls = 0u64;
+    for cell in cells {
+        if is_null(Some(cell)) {
+            nulls += 1;
+        }
+    }
+    nulls
 }
 
 fn nulls_of(field: u32, rows: &[Row]) -> u64

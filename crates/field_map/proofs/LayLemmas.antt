@@ -8,7 +8,9 @@ use Rattle.lake_types.specs.declared.sheet.SheetColumn.{SheetColumn}
 use Rattle.lake_types.specs.declared.value.Column.{Column}
 use Rattle.lake_types.specs.declared.value.Row.{Row}
 use Rattle.lake_types.specs.declared.value.Value.{Value}
-use Rattle.field_map.specs.Laid.{ArePlaces, cell, column_at, column_of, laid_row, value_at}
+use Rattle.lake_types.specs.Cells.{laid_cells}
+use Rattle.field_map.specs.Laid.{ArePlaces, column_at, column_of, found_cells, laid_row}
+use Rattle.field_map.specs.Steps.{cell, value_at}
 
 pub place_found : (sheet : List SheetColumn) (field place : ℕ) (column : SheetColumn) → place < length sheet → column ≡ get_or sheet place column
     → column.field ≡ Some field → column_of sheet field ≡ column_of (drop place sheet) field → slice_get sheet place ≡ column_of sheet field
@@ -41,6 +43,16 @@ cell_turn sheet columns places row at column none cells are lt within is h =
     ∙ ap (λ (c : Column). map (cell sheet row) (take at columns) ++ cell sheet row c ∷ []) is
     ∙ sym more
 
-pub row_turn : (sheet : List SheetColumn) (columns : List Column) (id : ℕ)
+row_turn : (sheet : List SheetColumn) (columns : List Column) (id : ℕ)
     → map (laid_row sheet columns) (range_with_len 0 (id + 1)) ≡ map (laid_row sheet columns) (range_with_len 0 id) ++ laid_row sheet columns id ∷ []
 row_turn sheet columns id = map-range_with_len_more (laid_row sheet columns) 0 id id (omega arith)
+
+-- one more row
+pub rows_turn : (sheet : List SheetColumn) (columns : List Column) (id : ℕ) (rows new : List Row) (cells : List (ℕ × Value))
+    → new ≡ rows ++ record { id = id; cells = cells } ∷ [] → rows ≡ map (laid_row sheet columns) (range_with_len 0 id) → cells ≡ laid_cells columns (found_cells sheet columns id)
+    → new ≡ map (laid_row sheet columns) (range_with_len 0 (id + 1))
+rows_turn sheet columns id rows new cells more so_far laid =
+    let row : List (ℕ × Value) → Row = λ cs. record { id = id; cells = cs } in
+    more ∙ ap (λ (rs : List Row). rs ++ row cells ∷ []) so_far
+    ∙ ap (λ (cs : List (ℕ × Value)). map (laid_row sheet columns) (range_with_len 0 id) ++ row cs ∷ []) laid
+    ∙ sym (row_turn sheet columns id)

@@ -1,1 +1,2 @@
 pub mod LayLemmas
+pub mod LaidLemmas

@@ -1,7 +1,8 @@
 -- The rows of a sheet, laid into columns by field id.
 use Rattle.std.specs.Prelude.{◌≡◌, ℕ, Bool, true, false, ◌==◌, ◌||◌, List, [], ◌∷◌, map, Option, Some, None, option_and_then, if◌then◌else◌}
-use Rattle.std.specs.Option.{unwrap_or, option_or}
-use Rattle.std.specs.List.{slice_get, range_with_len}
+use Rattle.std.specs.Option.{option_map, option_or}
+use Rattle.std.specs.List.{filter_map, slice_get, range_with_len}
+use Rattle.lake_types.specs.Cells.{laid_cells}
 use Rattle.lake_types.specs.Fits.{promotes}
 use Rattle.lake_types.specs.declared.sheet.Sheet.{Sheet}
 use Rattle.lake_types.specs.declared.sheet.SheetColumn.{SheetColumn}
@@ -25,14 +26,17 @@ abbrev pub column_of : List SheetColumn → ℕ → Option SheetColumn
 column_of [] field = None
 column_of (column ∷ columns) field = if is_of column.field field then Some column else column_of columns field
 
--- what a row, counted from 0, has in a column of the sheet; else the initial default
-abbrev pub value_at : Option SheetColumn → ℕ → Value → Value
-value_at None row initial = initial
-value_at (Some column) row initial = unwrap_or (slice_get column.cells row) initial
+-- what a row, counted from 0, has in a field of the sheet
+abbrev pub value_in : List SheetColumn → ℕ → ℕ → Option Value
+value_in sheet row field = option_and_then (λ column. slice_get column.cells row) (column_of sheet field)
 
--- a column's cell in a row: that of the sheet's column of its field, or the initial default where there is no such column
-abbrev pub cell : List SheetColumn → ℕ → Column → ℕ × Value
-cell sheet row column = (column.field, value_at (column_of sheet column.field) row column.initial)
+-- the cell that a row of the sheet has for a column
+abbrev pub found_cell : List SheetColumn → ℕ → Column → Option (ℕ × Value)
+found_cell sheet row column = option_map (λ v. (column.field, v)) (value_in sheet row column.field)
+
+-- the cells that a row of the sheet has for the columns
+abbrev pub found_cells : List SheetColumn → List Column → ℕ → List (ℕ × Value)
+found_cells sheet columns row = filter_map (found_cell sheet row) columns
 
 -- the column at a place that may be none
 abbrev pub column_at : List SheetColumn → Option ℕ → Option SheetColumn
@@ -44,9 +48,9 @@ ArePlaces sheet columns places = map (column_at sheet) places ≡ map (λ (colum
 
 -- ---- rows
 
--- a row has a cell for each column, in their order; its id is its place
+-- a row's cells, laid into the columns; its id is its place
 abbrev pub laid_row : List SheetColumn → List Column → ℕ → Row
-laid_row sheet columns i = record { id = i; cells = map (cell sheet i) columns }
+laid_row sheet columns i = record { id = i; cells = laid_cells columns (found_cells sheet columns i) }
 
 abbrev pub laid : List Column → Sheet → List Row
 laid columns sheet = map (laid_row sheet.columns columns) (range_with_len 0 sheet.rows)

@@ -1,5 +1,7 @@
 ghost use Rattle.std.specs.Prelude.{◌≡◌, ◌≢◌, ◌<◌, length, map, None, Some, IfOk, IfErr, IfSome};
+ghost use Rattle.lake_types.specs.Cells.{laid_cells};
 ghost use Rattle.field_map.specs.Laid as spec;
+ghost use Rattle.field_map.specs.Steps as steps;
 ghost use Rattle.field_map.specs.declared.fault.LayFault.TheVariants.{Memory};
 
 use crate::fault::LayFault;
@@ -73,14 +75,13 @@ fn place_of(sheet: &[SheetColumn], field: u32) -> Option<usize>
     None
 }
 
-#[tactic(auto, using(crate::proofs::LayLemmas::row_turn))]
 fn laid_rows(alloc: Global, sheet: &Sheet, columns: &[Column]) -> Result<RowList, AllocError>
     ensures { IfOk result (λ rows. rows ≡ spec.laid columns.now sheet.now) }
 {
     let places = places_of(alloc, sheet.columns.as_slice(), columns)?;
     let mut rows = RowList::new(alloc);
     for id in 0..sheet.rows {
-        let cells = cells_of(
+        let cells = row_cells(
             alloc,
             sheet.columns.as_slice(),
             columns,
@@ -107,6 +108,20 @@ fn places_of(
     Ok(places)
 }
 
+/// The cells of a row, laid into the columns.
+fn row_cells(
+    alloc: Global,
+    sheet: &[SheetColumn],
+    columns: &[Column],
+    places: &[Option<usize>],
+    row: u64,
+) -> Result<CellValues, AllocError>
+    requires { spec.ArePlaces sheet.now columns.now places.now }
+    ensures { IfOk result (λ cells. cells ≡ laid_cells columns.now (spec.found_cells sheet.now columns.now row)) }
+{
+    cells_of(alloc, sheet, columns, places, row)
+}
+
 fn cells_of(
     alloc: Global,
     sheet: &[SheetColumn],
@@ -115,7 +130,7 @@ fn cells_of(
     row: u64,
 ) -> Result<CellValues, AllocError>
     requires { spec.ArePlaces sheet.now columns.now places.now }
-    ensures { IfOk result (λ cells. cells ≡ map (spec.cell sheet.now row) columns.now) }
+    ensures { IfOk result (λ cells. cells ≡ map (steps.cell sheet.now row) columns.now) }
 {
     let mut cells = CellValues::new(alloc);
     for at in 0..columns.len() {
@@ -133,7 +148,7 @@ fn value_at<'a>(
     row: u64,
     initial: &'a Value,
 ) -> &'a Value
-    ensures { result.now ≡ spec.value_at (spec.column_at sheet.now place) row initial.now }
+    ensures { result.now ≡ steps.value_at (spec.column_at sheet.now place) row initial.now }
 {
     let Some(place) = place else {
         return initial;

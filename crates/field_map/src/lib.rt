@@ -7,6 +7,3 @@ mod laying;
 
 pub use fault::LayFault;
 pub use laying::lay;
-
-#[cfg(test)]
-mod tests;

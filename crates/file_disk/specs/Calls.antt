@@ -20,12 +20,12 @@ abbrev pub Creates : {T : Type 0} → List ℕ → Result T DiskNo → Folder �
 Creates name (Ok draft) old new = (old name ≡ None) × IsSome (new name) × SameBut name old new
 Creates name (Err why) old new = Same old new
 
--- `append` changes at most the bytes of the draft's name
+-- `append` changes at most the bytes of the draft's name, and makes or takes away no name
 abbrev pub Appends : {T : Type 0} → List ℕ → Result T DiskNo → Folder → Folder → Type 0
 Appends name (Ok done) old new = (IsSome (new name) ↔ IsSome (old name)) × SameBut name old new
 Appends name (Err why) old new = Same old new
 
--- `sync` leaves the appended bytes under the draft's name, where that is still there
+-- `sync` leaves the appended bytes under the draft's name, where that is there, whatever stood there before
 abbrev pub Seals : {T E : Type 0} → List ℕ → List ℕ → Result T E → Folder → Folder → Type 0
 Seals name bytes (Ok file) old new = (new name ≡ option_map (λ _. bytes) (old name)) × SameBut name old new
 Seals name bytes (Err back) old new = Same old new

@@ -40,6 +40,10 @@ pub trait Held: Drop {
 
 /// A folder of files, of which a disk sees one part. A file begins as a draft, which `sync` makes whole. A crash
 /// leaves each draft as any bytes or not at all, each whole file as it is, and nothing else.
+///
+/// A draft is known by its name alone. Where the name was removed and a file made under it since, `append` and
+/// `sync` of the older draft act on what stands there now: `sync` puts the older draft's bytes in its place, be it a
+/// draft or whole. Who makes each name once, as `Names` gives them, never meets this.
 pub trait FileDisk {
     type File: Held;
 
@@ -99,7 +103,8 @@ pub trait FileDisk {
         ensures part { part self.new ≡ part self.old };
 
     /// Makes the draft a whole file, which every crash from now on leaves until its name is removed. It takes no
-    /// memory. Where the name was removed since `create`, it makes no name.
+    /// memory. Where the name was removed since `create`, it makes no name; where it was made anew since, what stands
+    /// under it is replaced.
     fn sync(&mut self, draft: Self::Draft) -> Result<Self::File, (Self::Draft, DiskNo)>
         ensures name { IfOk result (λ file. Self.File.name file ≡ draft_name draft) }
         ensures own_part { IfOk result (λ file. Self.File.part file ≡ part self.new) }
@@ -113,6 +118,7 @@ pub trait FileDisk {
         ensures failed { IfErr result (λ back. back.1 ≡ DiskNo.Failed) }
         ensures cause { FailsByFault (faults self.old) (faults self.new) result }
 
+        // Whatever stands under the name gets the draft's bytes, also a file that was made there since.
         ensures files { Changes (Seals (draft_name draft) (draft_bytes draft) result)
             (files self.old) (files self.new) }
         ensures images { Touches MayBecomeAny (draft_name draft) (images self.old) (images self.new) }

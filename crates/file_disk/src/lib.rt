@@ -7,8 +7,6 @@ mod fault;
 mod mem_disk;
 mod mem_file;
 mod sure_disk;
-#[cfg(test)]
-mod tests;
 
 pub use disk::{FileDisk, Held};
 pub use fault::DiskNo;

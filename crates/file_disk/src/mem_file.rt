@@ -24,6 +24,17 @@ impl Model for MemFile {
     ghost view = { λ f. record { name = f.name; part = f.part; bytes = (arc_value f.bytes).items } };
 }
 
+impl MemFile {
+    ghost use Rattle.std.specs.Prelude.{◌<◌};
+
+    /// How many hold the file's bytes: the folder, this value and each copy of it. They share them.
+    pub fn holders(&self) -> u64
+        ensures { 0 < result }
+    {
+        Arc::strong_count(&self.bytes) as u64
+    }
+}
+
 impl Held for MemFile {
     ghost use Rattle.std.specs.Prelude.{length, Some, refl};
 

@@ -21,7 +21,7 @@ content_back (value.Text text) rest h = rw (binary_back text rest h.1, is_utf8-f
 content_back (value.Bytes bytes) rest h = rw (binary_back bytes rest h) refl
 content_back (value.Date day) rest h = rw (signed_back (2 ^ 32) day rest (zigzag_32 day h) (omega arith)) refl
 
-cell_back : (last : Option ℕ) (cell : ℕ × Value) (rest : List ℕ) → is_past last cell.0 ≡ true → IsCell cell → cell_in last (cell_spelling cell ++ rest) ≡ Some (cell, rest)
+pub cell_back : (last : Option ℕ) (cell : ℕ × Value) (rest : List ℕ) → is_past last cell.0 ≡ true → IsCell cell → cell_in last (cell_spelling cell ++ rest) ≡ Some (cell, rest)
 unfolding cell_in
 cell_back last cell rest past h =
     rw (append_assoc (unsigned_spelling cell.0) (content cell.1) rest, unsigned_back (2 ^ 32) cell.0 (content cell.1 ++ rest) h.0 (omega arith), past, content_back cell.1 rest h.1) refl

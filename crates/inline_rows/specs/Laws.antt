@@ -17,6 +17,10 @@ Spells bytes cells = (cells_spelling cells ≡ bytes) × AreCells cells
 abbrev pub SpellsNone : List ℕ → Type 0
 SpellsNone bytes = (cells : List (ℕ × Value)) → length cells < 2 ^ 64 → Spells bytes cells → ⊥
 
+-- bytes spell one list of cells at most
+abbrev pub SpellsOne : Type 0
+SpellsOne = (bytes : List ℕ) (a b : List (ℕ × Value)) → Spells bytes a → Spells bytes b → a ≡ b
+
 -- what is spelled reads back
 abbrev pub ReadsBack : Type 0
 ReadsBack = (cells : List (ℕ × Value)) (bytes : List ℕ) → length cells < 2 ^ 64 → Spells bytes cells → decoded bytes ≡ Ok cells

@@ -1,5 +1,6 @@
 pub mod Allowed
 pub mod Content
+pub mod Faults
 pub mod Finding
 pub mod Laws
 pub mod Reading

@@ -1,5 +1,6 @@
 ghost use Rattle.std.specs.Prelude.{◌≡◌, ◌≢◌, true, false, Ok, None, IfOk, IfErr, IfSome};
 ghost use Rattle.std.specs.Str.{is_utf8};
+ghost use Rattle.inline_rows.specs.Faults.{HasCause};
 ghost use Rattle.inline_rows.specs.Finding.{Finds, FindsCell, FindsContent, Stops};
 ghost use Rattle.inline_rows.specs.Laws.{Spells, SpellsNone};
 ghost use Rattle.inline_rows.specs.Reading as spec;
@@ -17,7 +18,7 @@ use std::str;
 pub fn decode_cells(alloc: Global, bytes: &[u8]) -> Result<Vec<(u32, Value)>, CellsFault>
     ensures ok { IfOk result (λ cells. Spells bytes.now cells.items) }
     ensures none { IfErr result (λ fault. fault ≢ Memory → SpellsNone bytes.now) }
-    ensures place { IfErr result (λ fault. Stops fault (spec.decoded bytes.now)) }
+    ensures cause { IfErr result (HasCause bytes.now) }
 {
     read_all(alloc, bytes)
 }
@@ -74,7 +75,7 @@ fn place(end: usize, bytes: &[u8]) -> u64
 
 /// A cell past the field `last`, and the bytes behind it.
 #[tactic(auto, unfolding(crate::specs::Reading::cell_in))]
-pub(crate) fn cell_at(last: Option<u32>, bytes: &[u8]) -> Option<((u32, Content<'_>), &[u8])>
+fn cell_at(last: Option<u32>, bytes: &[u8]) -> Option<((u32, Content<'_>), &[u8])>
     ensures { FindsCell result (spec.cell_in last bytes.now) }
 {
     let (field, rest) = field_at(last, bytes)?;

@@ -1,8 +1,13 @@
-//! What holds of the cells that bytes spell. The function's contract is a law, and its body is empty.
+//! What holds of the cells that bytes spell. Each function's contract is a law, and its body is empty.
 
-ghost use Rattle.inline_rows.specs.Laws.{ReadsBack};
+ghost use Rattle.inline_rows.specs.Laws.{ReadsBack, SpellsOne};
 
-/// What is spelled reads back, so no two rows of cells have one spelling.
+/// What is spelled reads back.
 pub fn reads_back()
     ensures { ReadsBack }
+{}
+
+/// Bytes spell one list of cells at most.
+pub fn spells_one()
+    ensures { SpellsOne }
 {}

@@ -14,6 +14,3 @@ pub use allowed::cells_ok;
 pub use decoding::decode_cells;
 pub use encoding::encode_cells;
 pub use fault::CellsFault;
-
-#[cfg(test)]
-mod tests;

@@ -26,9 +26,17 @@ content_after (Err why) batch content = content
 abbrev pub Same : (Tables → Type 0) → (Tables → Type 0) → Type 0
 Same before after = (image : Tables) → after image ↔ before image
 
+-- a crash may still find all that it might have found before
+abbrev pub Stay : (Tables → Type 0) → (Tables → Type 0) → Type 0
+Stay before after = (image : Tables) → before image → after image
+
+-- and besides at most this content
+abbrev pub Gains : Tables → (Tables → Type 0) → (Tables → Type 0) → Type 0
+Gains content before after = (image : Tables) → after image → before image ⊎ (image ≡ content)
+
 -- What a crash may find once a batch was offered to a content. Ok: the content with the batch, and nothing else.
--- Failed: what it might have found before, or the content with the batch.
+-- Failed: what it might have found before, and besides at most the content with the batch.
 abbrev pub Offers : {T : Type 0} → Result T KeepNo → Batch → Tables → (Tables → Type 0) → (Tables → Type 0) → Type 0
 Offers (Ok done) batch content before after = (image : Tables) → after image → image ≡ applied batch content
-Offers (Err Failed) batch content before after = (image : Tables) → after image → before image ⊎ (image ≡ applied batch content)
+Offers (Err Failed) batch content before after = Stay before after × Gains (applied batch content) before after
 Offers (Err Memory) batch content before after = Same before after

@@ -1,7 +1,7 @@
-ghost use Rattle.std.specs.Prelude.{◌≡◌, ℕ, Option, IfSome, IfOk, IsErrOf};
+ghost use Rattle.std.specs.Prelude.{◌≡◌, ℕ, Option, IfSome, IfOk, OnErr, IsErrOf};
 ghost use Rattle.cat_rows.specs.Batches.{tables_of};
 ghost use Rattle.cat_rows.specs.Tables.{Tables};
-ghost use Rattle.keeper.specs.Calls.{HasCause, Same, FitsContent, Offers, content_after};
+ghost use Rattle.keeper.specs.Calls.{HasCause, Same, Stay, FitsContent, Offers, content_after};
 
 use crate::fault::KeepNo;
 use cat_rows::{Batch, CatRows};
@@ -36,6 +36,7 @@ pub trait Keeper {
         ensures content { content self.new ≡ content_after result batch.now (content self.old) }
         ensures images { IfSome (content self.old) (λ told. Offers result batch.now told (images self.old) (images self.new)) }
         // Also where nothing is told.
+        ensures stay { OnErr result (Stay (images self.old) (images self.new)) }
         ensures memory { IsErrOf result KeepNo.Memory → Same (images self.old) (images self.new) };
 
     ghost tells_an_image: { (keeper : Self) → IfSome (content keeper) (images keeper) };

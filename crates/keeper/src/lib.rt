@@ -4,11 +4,7 @@
 mod fault;
 mod keeper_trait;
 mod mem_keeper;
-#[cfg(test)]
-mod row_tests;
 mod sure_keeper;
-#[cfg(test)]
-mod tests;
 
 pub use fault::KeepNo;
 pub use keeper_trait::Keeper;

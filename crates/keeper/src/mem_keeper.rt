@@ -1,8 +1,8 @@
-ghost use Rattle.std.specs.Prelude.{◌≡◌, ◌↔◌, Some, None, IfOk, IsErrOf, IsTrue};
-ghost use Rattle.cat_rows.specs.Batches.{tables_of, Fits};
+ghost use Rattle.std.specs.Prelude.{◌≡◌, ◌↔◌, [], Some, IfOk, OnErr, IsErrOf, IsTrue};
+ghost use Rattle.cat_rows.specs.Batches.{tables_of, applied, Fits};
 ghost use Rattle.lake_io.specs.FailList.{fails_next, after_call};
-ghost use Rattle.keeper.specs.Calls.{HasCause, Same, Offers, content_after};
-ghost use Rattle.keeper.specs.Memory.{IsImage};
+ghost use Rattle.keeper.specs.Calls.{Gains, HasCause, Same, Stay, Offers, content_after};
+ghost use Rattle.keeper.specs.Memory.{HoldsOffer, IsImage};
 
 use crate::fault::KeepNo;
 use crate::keeper_trait::Keeper;
@@ -16,8 +16,10 @@ use std::marker::Model;
 #[derive(Debug, Drop)]
 pub struct MemKeeper {
     keeper: SureKeeper,
-    /// The content with the last batch that failed since the last one that was kept.
-    offered: Option<SureKeeper>,
+    /// The contents with the batches that failed since the last one that was kept, the newest one last.
+    offered: Vec<SureKeeper>,
+    /// How many batches failed that aren't among these, for want of memory.
+    unoffered: u64,
     injector: FaultInjector,
 }
 
@@ -26,16 +28,17 @@ impl Model for MemKeeper {
 
     ghost Value = { FailingKeeper };
 
-    ghost view = { λ k. record { content = k.keeper; offered = k.offered; injected = k.injector } };
+    ghost view = { λ k. record { content = k.keeper; offered = k.offered.items; unoffered = k.unoffered; injected = k.injector } };
 }
 
 impl MemKeeper {
-    pub fn new(rows: CatRows, fails: FailList) -> MemKeeper
-        ensures { result ≡ record { content = tables_of rows; offered = None; injected = record { fails = fails; calls = 0; faults = 0 } } }
+    pub fn new(alloc: Global, rows: CatRows, fails: FailList) -> MemKeeper
+        ensures { result ≡ record { content = tables_of rows; offered = []; unoffered = 0; injected = record { fails = fails; calls = 0; faults = 0 } } }
     {
         MemKeeper {
             keeper: SureKeeper::new(rows),
-            offered: None,
+            offered: Vec::new(alloc),
+            unoffered: 0,
             injector: FaultInjector::new(fails),
         }
     }
@@ -45,6 +48,41 @@ impl MemKeeper {
         ensures { result ≡ self.now.injected.faults }
     {
         self.injector.faults()
+    }
+
+    /// How many batches failed that no crash finds, for want of memory.
+    pub fn unoffered(&self) -> u64
+        ensures { result ≡ self.now.unoffered }
+    {
+        self.unoffered
+    }
+
+    /// Keeps the content with a batch that failed, or counts it where memory is wanting for that.
+    fn keep_offer(&mut self, alloc: Global, batch: &Batch)
+        requires { Fits self.old.content batch.now }
+        ensures offers { HoldsOffer batch.now self.old self.new }
+        ensures content { self.new.content ≡ self.old.content }
+        ensures injected { self.new.injected ≡ self.old.injected }
+    {
+        let kept = match self.keeper.with_batch(alloc, batch) {
+            Ok(rows) => self.offered.push(SureKeeper::new(rows)).is_ok(),
+            Err(_) => false,
+        };
+        if !kept {
+            self.unoffered = self.unoffered.saturating_add(1);
+        }
+    }
+
+    /// The same, with what it does to the images.
+    fn offer(&mut self, alloc: Global, batch: &Batch)
+        requires { Fits self.old.content batch.now }
+        ensures offers { HoldsOffer batch.now self.old self.new }
+        ensures stay { Stay (IsImage self.old) (IsImage self.new) }
+        ensures gains { Gains (applied batch.now self.old.content) (IsImage self.old) (IsImage self.new) }
+        ensures content { self.new.content ≡ self.old.content }
+        ensures injected { self.new.injected ≡ self.old.injected }
+    {
+        self.keep_offer(alloc, batch);
     }
 }
 
@@ -82,17 +120,17 @@ impl Keeper for MemKeeper {
 
         ensures content { Some self.new.content ≡ content_after result batch.now (Some self.old.content) }
         ensures images { Offers result batch.now self.old.content (IsImage self.old) (IsImage self.new) }
+        ensures stay { OnErr result (Stay (IsImage self.old) (IsImage self.new)) }
         ensures memory { IsErrOf result KeepNo.Memory → Same (IsImage self.old) (IsImage self.new) }
+        // A crash may find a batch that failed, unless it is counted as one that no crash finds.
+        ensures offers { IsErrOf result KeepNo.Failed → HoldsOffer batch.now self.old self.new }
     {
         if self.injector.count_call().is_err() {
-            // Where memory is wanting for the batch that failed, no crash finds it.
-            if let Ok(rows) = self.keeper.with_batch(alloc, batch) {
-                self.offered = Some(SureKeeper::new(rows));
-            }
+            self.offer(alloc, batch);
             return Err(KeepNo::Failed);
         }
         self.keeper.apply(alloc, batch)?;
-        self.offered = None;
+        self.offered.clear();
         Ok(())
     }
 }

@@ -1,6 +1,6 @@
-ghost use Rattle.std.specs.Prelude.{◌≡◌, Some, IfOk, IsErrOf, refl};
+ghost use Rattle.std.specs.Prelude.{◌≡◌, Some, IfOk, OnErr, IsErrOf, refl};
 ghost use Rattle.cat_rows.specs.Batches.{tables_of, Fits};
-ghost use Rattle.keeper.specs.Calls.{HasCause, Same, Offers, content_after};
+ghost use Rattle.keeper.specs.Calls.{HasCause, Same, Stay, Offers, content_after};
 
 use crate::fault::KeepNo;
 use crate::keeper_trait::Keeper;
@@ -70,6 +70,7 @@ impl Keeper for SureKeeper {
 
         ensures content { Some self.new ≡ content_after result batch.now (Some self.old) }
         ensures images { Offers result batch.now self.old (λ image. image ≡ self.old) (λ image. image ≡ self.new) }
+        ensures stay { OnErr result (Stay (λ image. image ≡ self.old) (λ image. image ≡ self.new)) }
         ensures memory { IsErrOf result KeepNo.Memory → Same (λ image. image ≡ self.old) (λ image. image ≡ self.new) }
     {
         apply_batch(alloc, &mut self.rows, batch)?;

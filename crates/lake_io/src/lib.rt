@@ -7,8 +7,6 @@ mod faults;
 mod names;
 mod sink;
 mod source;
-#[cfg(test)]
-mod tests;
 
 pub use clock::{Clock, FixedClock};
 pub use faults::{FailList, Failed, FaultInjector};

@@ -1,4 +1,4 @@
-use Rattle.std.proofs.Common.{rules, ◌≡◌, ◌<◌, length, None, arith}
+use Rattle.std.proofs.Common.{rules, ◌<◌, length, None, arith}
 use Rattle.field_map.proofs.LayLemmas.{cell_turn, same_length}
 use Rattle.field_map.proofs.laying.cells_of.Goals as goal
 

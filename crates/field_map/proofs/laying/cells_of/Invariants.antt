@@ -1,5 +1,5 @@
 use Rattle.std.proofs.Common.{◌≡◌, map, take}
-use Rattle.field_map.specs.Laid.{cell}
+use Rattle.field_map.specs.Steps.{cell}
 use Rattle.field_map.proofs.laying.cells_of.Given as goal
 
 -- the cells so far

@@ -1,4 +1,4 @@
-use Rattle.std.proofs.Common.{◌≡◌, take}
+use Rattle.std.proofs.Common.{take}
 use Rattle.field_map.specs.Laid.{ArePlaces}
 use Rattle.field_map.proofs.laying.places_of.Given as goal
 

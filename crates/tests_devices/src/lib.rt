@@ -1,0 +1,10 @@
+//! Tests of the devices in memory and of the keepers: what their clauses don't say. Each public call succeeds with
+//! ample memory, and each that can fail fails once and then works.
+#![tactic(auto)]
+
+#[cfg(test)]
+mod disks;
+#[cfg(test)]
+mod keepers;
+#[cfg(test)]
+mod streams;

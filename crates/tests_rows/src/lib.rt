@@ -1,0 +1,12 @@
+//! Tests of the catalogue's rows and of what is beside them: batches, the cells of inlined rows, statistics of columns, and
+//! rows laid by field id. Each public call succeeds with ample memory, and gives what its format's examples say.
+#![tactic(auto)]
+
+#[cfg(test)]
+mod batches;
+#[cfg(test)]
+mod cells;
+#[cfg(test)]
+mod counts;
+#[cfg(test)]
+mod laid;
