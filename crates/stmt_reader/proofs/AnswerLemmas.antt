@@ -16,26 +16,27 @@ use Rattle.stmt_reader.proofs.PlaceLemmas.{has_one_place, one_thing, says_or_fai
 use Rattle.stmt_reader.specs.declared.line.LineNo.{LineNo}
 use Rattle.stmt_reader.specs.declared.line.LineNo.TheVariants.{TooLong, Syntax, Memory}
 use Rattle.stmt_reader.specs.Laws.{HasAnAnswer, HasOneAnswer, SaysItsSession}
-use Rattle.stmt_reader.specs.Lines.{IsAnswer, LineAnswers, answer_in, answer_of, longest, or_zero, session_at, session_named}
+use Rattle.lake_types.specs.declared.limits.TheConstants.{MAX_LINE_BYTES}
+use Rattle.stmt_reader.specs.Lines.{IsAnswer, LineAnswers, answer_in, answer_of, or_zero, session_at, session_named}
 use Rattle.stmt_reader.specs.Rules as rules
 use Rattle.stmt_reader.specs.Values.{session_of}
 
 -- ---- the answer
 
-in_line : (line : List ℕ) (found : Result (ℕ × Stmt) ℕ) → length line ≤ longest → IsOutcome rules.line (tokens_of line) found
+in_line : (line : List ℕ) (found : Result (ℕ × Stmt) ℕ) → length line ≤ MAX_LINE_BYTES → IsOutcome rules.line (tokens_of line) found
     → LineAnswers line (answer_in line found) × (answer_in line found ≢ Err Memory)
 in_line line (Ok said) l h = ((l, h), λ e. cc)
 in_line line (Err n) l h = ((l, refl, (n, h, refl)), λ e. cc)
 
 pub has_an_answer : HasAnAnswer
 unfolding answer_of
-has_an_answer line = by_length (nat_lt longest (length line)) refl
+has_an_answer line = by_length (nat_lt MAX_LINE_BYTES (length line)) refl
   where
-    by_length : (t : Bool) → nat_lt longest (length line) ≡ t
+    by_length : (t : Bool) → nat_lt MAX_LINE_BYTES (length line) ≡ t
         → LineAnswers line (cond t (Err (TooLong (session_at line))) (answer_in line (ended (tokens_of line) (read rules.line (tokens_of line)))))
         × (cond t (Err (TooLong (session_at line))) (answer_in line (ended (tokens_of line) (read rules.line (tokens_of line)))) ≢ Err Memory)
-    by_length true e = ((ltb-true longest (length line) e, refl), λ i. cc)
-    by_length false e = in_line line (ended (tokens_of line) (read rules.line (tokens_of line))) (ltb-false longest (length line) e) (exact rules.line sound_line (tokens_of line))
+    by_length true e = ((ltb-true MAX_LINE_BYTES (length line) e, refl), λ i. cc)
+    by_length false e = in_line line (ended (tokens_of line) (read rules.line (tokens_of line))) (ltb-false MAX_LINE_BYTES (length line) e) (exact rules.line sound_line (tokens_of line))
 
 same_answer : (line : List ℕ) (a b : Result (ℕ × Stmt) LineNo) → LineAnswers line a → LineAnswers line b → a ≢ Err Memory → b ≢ Err Memory → a ≡ b
 same_answer line (Err Memory) b h k f g = absurd (f refl)

@@ -17,7 +17,8 @@ use Rattle.stmt_grammar.proofs.Samples.{sound_mark}
 use Rattle.stmt_grammar.proofs.Sound.{Sound, after}
 use Rattle.stmt_reader.specs.declared.line.Fault.{Fault}
 use Rattle.stmt_reader.specs.declared.line.Fault.TheVariants.{WrongAt, NoMemory}
-use Rattle.stmt_reader.specs.Lines.{Gives, TokensAnswer, LineAnswers, located, longest}
+use Rattle.lake_types.specs.declared.limits.TheConstants.{MAX_LINE_BYTES}
+use Rattle.stmt_reader.specs.Lines.{Gives, TokensAnswer, LineAnswers, located}
 use Rattle.stmt_reader.specs.Rules.{line, session, stmt, transaction, begin, begin_at, definition, create, remove, alter, change, rename, set_column, setting, columns, column, nulls, default_value, rows, insert, delete, update, select, assignment, row, cell, literal, table, name, column_type, shown, item, upkeep, where_}
 use Rattle.stmt_reader.proofs.RulesSound.{sound_stmt, after_condition, empty_condition}
 
@@ -45,7 +46,7 @@ answer_of ts found (Err NoMemory) k h = tt
 pub answered : (ts : List Token) (r : Result (ℕ × Stmt) Fault) → Gives (ended ts (read line ts)) r → TokensAnswer ts r
 answered ts r h = answer_of ts (ended ts (read line ts)) r (exact line sound_line ts) h
 
-pub located_fault : (bytes : List ℕ) (fault : Fault) → length bytes ≤ longest → TokensAnswer (tokens_of bytes) (Err fault) →
+pub located_fault : (bytes : List ℕ) (fault : Fault) → length bytes ≤ MAX_LINE_BYTES → TokensAnswer (tokens_of bytes) (Err fault) →
     LineAnswers bytes (Err (located bytes (places_of bytes) fault))
 located_fault bytes (WrongAt n) l h = (l, refl, (n, h, refl))
 located_fault bytes NoMemory l h = tt

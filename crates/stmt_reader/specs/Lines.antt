@@ -1,5 +1,6 @@
 -- What a line says, and where it fails to be one.
 use Rattle.std.specs.Prelude.{ℕ, ◌≤◌, ◌<◌, ◌≡◌, nat_lt, List, length, slice_index_or, Option, Some, None, Result, Ok, Err, if◌then◌else◌}
+use Rattle.lake_types.specs.declared.limits.TheConstants.{MAX_LINE_BYTES}
 use Rattle.lake_types.specs.declared.stmt.Stmt.{Stmt}
 use Rattle.stmt_tokens.specs.declared.token.Token.{Token}
 use Rattle.stmt_tokens.specs.Tokens.{tokens_of, places_of, number_first}
@@ -11,10 +12,6 @@ use Rattle.stmt_reader.specs.declared.line.LineNo.{LineNo}
 use Rattle.stmt_reader.specs.declared.line.LineNo.TheVariants.{TooLong, Syntax, Memory}
 use Rattle.stmt_reader.specs.Rules as rules
 use Rattle.stmt_reader.specs.Values.{session_of}
-
--- the most bytes of a line
-abbrev pub longest : ℕ
-longest = 1048576
 
 -- the session and the statement that a line spells
 abbrev pub Says : List ℕ → ℕ × Stmt → Type 0
@@ -45,9 +42,9 @@ IsFaultAt line at = (n : ℕ) × IsWrongAt rules.line (tokens_of line) n × (at 
 
 -- what is answered of a line
 abbrev pub LineAnswers : List ℕ → Result (ℕ × Stmt) LineNo → Type 0
-LineAnswers line (Ok said) = (length line ≤ longest) × Says line said
-LineAnswers line (Err (TooLong session)) = (longest < length line) × (session ≡ session_at line)
-LineAnswers line (Err (Syntax session at)) = (length line ≤ longest) × (session ≡ session_at line) × IsFaultAt line at
+LineAnswers line (Ok said) = (length line ≤ MAX_LINE_BYTES) × Says line said
+LineAnswers line (Err (TooLong session)) = (MAX_LINE_BYTES < length line) × (session ≡ session_at line)
+LineAnswers line (Err (Syntax session at)) = (length line ≤ MAX_LINE_BYTES) × (session ≡ session_at line) × IsFaultAt line at
 LineAnswers line (Err Memory) = Unit {0}
 
 -- ---- the answer as a function
@@ -60,7 +57,7 @@ answer_in line (Err n) = Err (Syntax (session_at line) (place line n))
 -- the answer of a line
 unfoldable pub answer_of : List ℕ → Result (ℕ × Stmt) LineNo
 answer_of line =
-    if nat_lt longest (length line) then Err (TooLong (session_at line))
+    if nat_lt MAX_LINE_BYTES (length line) then Err (TooLong (session_at line))
     else answer_in line (ended (tokens_of line) (read rules.line (tokens_of line)))
 
 -- this is the line's answer, or want of memory

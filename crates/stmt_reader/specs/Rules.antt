@@ -2,6 +2,7 @@
 -- any number of times.
 use Rattle.std.specs.Prelude.{ℕ, zero, suc, Bool, true, false, not, List, [], ◌∷◌, Option, Some, None, is_some, codes, option_map, ◌⊎◌}
 use Rattle.std.proofs.Common.{inl, inr}
+use Rattle.lake_types.specs.declared.limits.TheConstants.{MAX_NESTING}
 use Rattle.stmt_tokens.specs.declared.token.Kind.{Kind}
 use Rattle.stmt_tokens.specs.declared.token.Keyword.{Keyword}
 use Rattle.stmt_tokens.specs.declared.token.Keyword.TheVariants as words
@@ -201,7 +202,7 @@ unary (suc depth) =
     made (λ z. pred.Not z.1) (word words.Not then unary depth) or parenthesized (ors (unary depth)) or simple_test
 
 unfoldable pub condition : Grammar Pred
-condition = ors (unary 64)
+condition = ors (unary MAX_NESTING)
 
 -- [WHERE or]
 unfoldable pub where_ : Grammar (Option Pred)

@@ -1,5 +1,6 @@
 -- What the text of a token stands for.
 use Rattle.std.specs.Prelude.{ℕ, ℤ, pos, neg_ℤ, ◌+◌, ◌-◌, ◌*◌, ◌^◌, ◌==◌, ◌&&◌, not, nat_le, nat_lt, min, Bool, true, false, List, [], ◌∷◌, fold, Option, Some, None, if◌then◌else◌}
+use Rattle.lake_types.specs.declared.limits.TheConstants.{MAX_COUNTER, MAX_SESSIONS}
 
 -- the number that digits write
 abbrev pub natural : List ℕ → ℕ
@@ -22,17 +23,16 @@ signed true n = if nat_le n (2 ^ 63) then Some (neg_ℤ (pos n)) else None
 abbrev pub integer_of : List ℕ → Option ℤ
 integer_of text = signed (is_negative text) (magnitude text)
 
--- 0 to 4611686018427387904; a minus before 0 is allowed
+-- up to the last value of a counter; a minus before 0 is allowed
 abbrev pub counted : Bool → ℕ → Option ℕ
-counted false n = if nat_le n (2 ^ 62) then Some n else None
+counted false n = if nat_le n MAX_COUNTER then Some n else None
 counted true n = if n == 0 then Some 0 else None
 
 abbrev pub count_of : List ℕ → Option ℕ
 count_of text = counted (is_negative text) (magnitude text)
 
--- 1 to 16
 abbrev pub numbered : Bool → ℕ → Option ℕ
-numbered negative n = if not negative && nat_le 1 n && nat_le n 16 then Some n else None
+numbered negative n = if not negative && nat_le 1 n && nat_le n MAX_SESSIONS then Some n else None
 
 abbrev pub session_of : List ℕ → Option ℕ
 session_of text = numbered (is_negative text) (magnitude text)

@@ -8,13 +8,11 @@ ghost use Rattle.stmt_grammar.specs.Reads.{Reads};
 use crate::numbers::session_of;
 use crate::statement::stmt;
 use lake_types::Stmt;
+use lake_types::limits::MAX_LINE_BYTES;
 use std::alloc::Global;
 use stmt_grammar::{Cursor, Stop};
 use stmt_tokens::{Cut, Kind, Sign, Token, cut_of, first_number};
 use thiserror::Error;
-
-/// The most bytes of a line, its line feed and a carriage return before it left out.
-const LINE_MOST: usize = 1_048_576;
 
 /// Why a line says nothing. The session is that of the line's first token where this is a valid one,
 /// else 0.
@@ -137,7 +135,7 @@ fn located(line: &[u8], places: &[usize], fault: Fault) -> LineNo
 fn line_answer(alloc: Global, line: &[u8]) -> Result<(u8, Stmt), LineNo>
     ensures { lines.LineAnswers line.now result }
 {
-    if line.len() > LINE_MOST {
+    if line.len() > MAX_LINE_BYTES {
         return Err(LineNo::TooLong {
             session: session_of_line(line),
         });

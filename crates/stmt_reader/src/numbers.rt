@@ -1,16 +1,11 @@
 ghost use Rattle.std.specs.Prelude.{◌≡◌, ◌-◌, ◌^◌, ◌≤◌, min, IfOk};
 ghost use Rattle.stmt_reader.specs.Values as spec;
 
+use lake_types::limits::{MAX_COUNTER, MAX_SESSIONS};
 use std::alloc::{AllocError, Global};
 
 /// The magnitude of the least number of 64 bits.
 const LEAST: u64 = 9_223_372_036_854_775_808;
-
-/// The highest number of a version.
-const COUNT_MOST: u64 = 4_611_686_018_427_387_904;
-
-/// The highest session.
-const SESSION_MOST: u64 = 16;
 
 /// The number that digits write. It stays at its type's last value.
 fn natural(digits: &[u8]) -> u64
@@ -71,7 +66,7 @@ fn signed(is_negative: bool, magnitude: u64) -> Option<i64>
 fn counted(is_negative: bool, magnitude: u64) -> Option<u64>
     ensures { result ≡ spec.counted is_negative magnitude }
 {
-    let most = if is_negative { 0 } else { COUNT_MOST };
+    let most = if is_negative { 0 } else { MAX_COUNTER };
     if magnitude <= most {
         Some(magnitude)
     } else {
@@ -82,7 +77,7 @@ fn counted(is_negative: bool, magnitude: u64) -> Option<u64>
 fn numbered(is_negative: bool, magnitude: u64) -> Option<u8>
     ensures { result ≡ spec.numbered is_negative magnitude }
 {
-    if !is_negative && 1 <= magnitude && magnitude <= SESSION_MOST {
+    if !is_negative && 1 <= magnitude && magnitude <= u64::from(MAX_SESSIONS) {
         Some(magnitude as u8)
     } else {
         None

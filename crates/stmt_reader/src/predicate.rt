@@ -6,14 +6,12 @@ ghost use Rattle.stmt_grammar.specs.Reads.{Reads};
 
 use crate::literals::literal;
 use crate::names::name;
+use lake_types::limits::MAX_NESTING;
 use lake_types::{Op, Pred, PredList, Value};
 use sqlite_items::{Boxed, Items};
 use std::alloc::Global;
 use stmt_grammar::{Cursor, Stop};
 use stmt_tokens::{Keyword, Kind, Sign};
-
-/// How many parentheses and NOTs may be open inside one another.
-const DEPTH_MOST: usize = 64;
 
 fn op_of(kind: Kind) -> Option<Op>
     ensures { result ≡ spec.op_of kind }
@@ -185,5 +183,5 @@ fn any(alloc: Global, tokens: &mut Cursor<'_>, depth: usize) -> Result<Pred, Sto
 pub fn condition(alloc: Global, tokens: &mut Cursor<'_>) -> Result<Pred, Stop>
     ensures { Reads (read spec.condition tokens.old.rest.now) result tokens.new.rest.now }
 {
-    any(alloc, tokens, DEPTH_MOST)
+    any(alloc, tokens, MAX_NESTING)
 }

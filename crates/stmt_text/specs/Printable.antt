@@ -1,6 +1,7 @@
 -- The statements that a line can say.
 use Rattle.std.specs.Prelude.{ℕ, ◌≡◌, ◌^◌, Bool, true, false, ◌&&◌, nat_le, List, [], ◌∷◌, length, Option, Some, None}
 use Rattle.std.specs.List.{list_all}
+use Rattle.lake_types.specs.declared.limits.TheConstants.{MAX_NAME_BYTES, MAX_NESTING}
 use Rattle.lake_types.specs.Fits.{fits}
 use Rattle.lake_types.specs.declared.value.ColType.TheVariants as ty
 use Rattle.lake_types.specs.declared.value.Value.{Value}
@@ -22,7 +23,7 @@ use Rattle.stmt_text.specs.Printed.{shown}
 
 -- 1 to 255 bytes
 abbrev pub is_name : List ℕ → Bool
-is_name name = nat_le 1 (length name) && nat_le (length name) 255
+is_name name = nat_le 1 (length name) && nat_le (length name) MAX_NAME_BYTES
 
 abbrev pub is_table : TableName → Bool
 is_table t = is_name t.schema && is_name t.table
@@ -81,7 +82,7 @@ is_sound = fold-Pred Bool is_sound_at
 
 -- at most 64 parentheses and NOTs are open inside one another
 abbrev pub is_test : Pred → Bool
-is_test p = is_sound p && nat_le (shown p).nesting 64
+is_test p = is_sound p && nat_le (shown p).nesting MAX_NESTING
 
 abbrev pub is_where : Option Pred → Bool
 is_where None = true

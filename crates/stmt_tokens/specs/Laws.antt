@@ -2,6 +2,7 @@
 use Rattle.std.specs.Prelude.{ℕ, ◌≡◌, ◌&&◌, ◌==◌, ◌%◌, nat_le, true, false, ◌⊎◌, List, [], ◌∷◌, ◌++◌, length, take, drop}
 use Rattle.std.specs.List.{list_all}
 use Rattle.std.specs.Str.{is_utf8}
+use Rattle.lake_types.specs.declared.limits.TheConstants.{MAX_NAME_BYTES}
 use Rattle.lake_types.specs.Texts.{quoted_by}
 use Rattle.stmt_tokens.specs.Tokens.{Lexed, is_digit, is_hex, is_quote, opens, token_at, tokens_of}
 use Rattle.stmt_tokens.specs.declared.token.Keyword.{Keyword}
@@ -25,7 +26,7 @@ abbrev pub SignsAreCut : Type 0
 SignsAreCut = (sign : Sign) → IsCut (mark sign)
 
 abbrev pub NamesAreCut : Type 0
-NamesAreCut = (name : List ℕ) → is_utf8 name ≡ true → (nat_le 1 (length name) && nat_le (length name) 255) ≡ true → IsCut (token_of k.Quoted name)
+NamesAreCut = (name : List ℕ) → is_utf8 name ≡ true → (nat_le 1 (length name) && nat_le (length name) MAX_NAME_BYTES) ≡ true → IsCut (token_of k.Quoted name)
 
 abbrev pub TextsAreCut : Type 0
 TextsAreCut = (text : List ℕ) → is_utf8 text ≡ true → IsCut (token_of k.Text text)

@@ -3,6 +3,7 @@
 use Rattle.std.specs.Prelude.{ℕ, ◌+◌, ◌-◌, ◌%◌, ◌==◌, ◌||◌, ◌&&◌, nat_le, Bool, true, false, not, List, [], ◌∷◌, zero, suc, length, take_while, drop, take, ◌++◌, ◌≡◌, if◌then◌else◌, Option, Some, None, option_map, codes}
 use Rattle.std.specs.Str.{is_utf8, str_eq_ignore_ascii_case}
 use denote.Enum.Bare.{sameb}
+use Rattle.lake_types.specs.declared.limits.TheConstants.{MAX_NAME_BYTES}
 use Rattle.stmt_tokens.specs.contracts.token.Keyword.{the_type}
 use Rattle.stmt_tokens.specs.declared.token.Keyword.{Keyword}
 use Rattle.stmt_tokens.specs.declared.token.Keyword.TheVariants as words
@@ -154,7 +155,7 @@ taken None len rest = (bad, length rest)
 
 -- a word has at most 255 bytes
 abbrev pub word_of : List ℕ → Option Token
-word_of text = if nat_le (length text) 255 then made (keyword text) text else None
+word_of text = if nat_le (length text) MAX_NAME_BYTES then made (keyword text) text else None
 
 abbrev pub word_at : ℕ → List ℕ → Lexed
 word_at b rest = taken (word_of (b ∷ take (word_len rest) rest)) (word_len rest) rest
@@ -184,7 +185,7 @@ text_at rest = text_to rest (closing 39 false 0 rest)
 
 -- a quoted name has 1 to 255 bytes
 abbrev pub quoted_of : List ℕ → Option Token
-quoted_of text = if nat_le 1 (length text) && nat_le (length text) 255 then made k.Quoted text else None
+quoted_of text = if nat_le 1 (length text) && nat_le (length text) MAX_NAME_BYTES then made k.Quoted text else None
 
 abbrev pub quoted_to : List ℕ → Option ℕ → Lexed
 quoted_to rest None = taken None 0 rest

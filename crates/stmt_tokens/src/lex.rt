@@ -6,10 +6,8 @@ use crate::keywords::keyword;
 use crate::signs::{long_sign, sign_of};
 use crate::token::{Kind, Sign, Token};
 use lake_types::Words;
+use lake_types::limits::MAX_NAME_BYTES;
 use std::alloc::{AllocError, Global};
-
-/// The most bytes of a name.
-const NAME_MOST: usize = 255;
 
 /// How many bytes there are to behind the closing quote.
 fn closing(quote: u8, text: &[u8]) -> Option<usize>
@@ -102,7 +100,7 @@ fn word_at(alloc: Global, b: u8, rest: &[u8]) -> Result<(Token, usize), AllocErr
 {
     let len = word_len(rest);
     let text = run_of(alloc, b, rest, len)?;
-    let token = if text.len() <= NAME_MOST {
+    let token = if text.len() <= MAX_NAME_BYTES {
         made(alloc, keyword(text.as_slice()), text.as_slice())?
     } else {
         None
@@ -140,7 +138,7 @@ fn quoted_at(alloc: Global, rest: &[u8]) -> Result<(Token, usize), AllocError>
         return taken(alloc, None, 0, rest);
     };
     let text = undouble(alloc, b'"', rest.split_at(len.saturating_sub(1)).0)?;
-    let token = if 1 <= text.len() && text.len() <= NAME_MOST {
+    let token = if 1 <= text.len() && text.len() <= MAX_NAME_BYTES {
         made(alloc, Kind::Quoted, text.as_slice())?
     } else {
         None
