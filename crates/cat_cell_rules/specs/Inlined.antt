@@ -33,7 +33,7 @@ next_field t r = option_map (λ s. s.next_field_id) (stats_of_table t r.table_id
 
 -- the bytes aren't the spelling of cells that are small, each and together, with field ids below the next one
 abbrev pub HasUnreadableCells : Tables → InlinedRow → Type 0
-HasUnreadableCells t r = SpellsAllowed [] (next_field t r) r.cells → ⊥
+HasUnreadableCells t r = SpellsAllowed (next_field t r) r.cells → ⊥
 
 abbrev pub HasWrongRowId : Tables → InlinedRow → Type 0
 HasWrongRowId t r = HasRow (stats_of_table t r.table_id) (λ s. s.next_row_id ≤ r.row_id)

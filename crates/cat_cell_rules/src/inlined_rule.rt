@@ -30,12 +30,6 @@ fn next_field(rows: &CatRows, row: &InlinedRow) -> Option<u64>
     }
 }
 
-fn has_unreadable_cells(rows: &CatRows, row: &InlinedRow) -> bool
-    ensures { Decides result (spec.HasUnreadableCells (tables_of rows.now) row.now) }
-{
-    !cells_ok(row.cells.as_slice(), &[], next_field(rows, row))
-}
-
 fn has_wrong_row_id(rows: &CatRows, row: &InlinedRow) -> bool
     ensures { Decides result (spec.HasWrongRowId (tables_of rows.now) row.now) }
 {
@@ -86,17 +80,22 @@ fn are_misfits(rows: &CatRows, index: &TermIndex, row: &InlinedRow, cells: &[(u3
     cells.iter().any(|cell| is_misfit(index, table, stay, cell))
 }
 
-fn has_misfit(
+/// Whether a row's cells can't be read or aren't allowed, and whether one is refused.
+fn judge_cells(
     alloc: Global,
     rows: &CatRows,
     index: &TermIndex,
     row: &InlinedRow,
-) -> Result<bool, NoMemory>
-    ensures { IfOk result (λ yes. Decides yes (spec.HasMisfitBy (tables_of rows.now) index.now row.now)) }
+) -> Result<(bool, bool), NoMemory>
+    ensures unreadable { IfOk result (λ found. Decides found.0 (spec.HasUnreadableCells (tables_of rows.now) row.now)) }
+    ensures misfit { IfOk result (λ found. Decides found.1 (spec.HasMisfitBy (tables_of rows.now) index.now row.now)) }
 {
     match decode_cells(alloc, row.cells.as_slice()) {
-        Ok(cells) => Ok(are_misfits(rows, index, row, cells.as_slice())),
-        Err(CellsFault::BadCells { .. }) => Ok(false),
+        Ok(cells) => {
+            let allowed = cells_ok(cells.as_slice(), next_field(rows, row));
+            Ok((!allowed, are_misfits(rows, index, row, cells.as_slice())))
+        }
+        Err(CellsFault::BadCells { .. }) => Ok((true, false)),
         Err(CellsFault::Memory) => Err(AllocError),
     }
 }
@@ -109,8 +108,8 @@ fn is_wrong(
 ) -> Result<bool, NoMemory>
     ensures { IfOk result (λ yes. Decides yes (spec.IsInlinedWrong (tables_of rows.now) index.now row.now)) }
 {
-    let misfit = has_misfit(alloc, rows, index, row)?;
-    Ok(has_unreadable_cells(rows, row) || (has_wrong_row_id(rows, row) || misfit))
+    let (unreadable, misfit) = judge_cells(alloc, rows, index, row)?;
+    Ok(unreadable || (has_wrong_row_id(rows, row) || misfit))
 }
 
 /// The rows that are wrong, and that a kept snapshot sees with their table.

@@ -1,23 +1,16 @@
 -- What a batch leaves of what earlier snapshots see.
-use Rattle.std.proofs.Common.{◌≡◌, ◌<◌, ℕ, List, [], ◌∷◌, refl, sym, ap, subst, ◌∙◌, Option, Some, None}
-use Rattle.std.specs.Prelude.{fold, option_map, IfSome}
+use Rattle.std.proofs.Common.{◌≡◌, ◌<◌, ℕ, List, [], ◌∷◌, sym, ap, subst, ◌∙◌, Option, Some, None}
+use Rattle.std.specs.Prelude.{option_map, IfSome}
 use Rattle.std.specs.List.{AllByRecursion, filter_map, cons_option}
-use Rattle.cat_tables.specs.Table.{put, put_all, without, all_removed, edited}
-use Rattle.cat_tables.specs.Validity.{visible_at, ended_at, all_ended, IsUnseen}
+use Rattle.cat_tables.specs.Validity.{visible_at, IsUnseen}
 use Rattle.cat_tables.proofs.FrameLemmas.{visible_at-batch}
-use Rattle.cat_rows.specs.Batches.{added, removed, ended, ended_row, applied}
+use Rattle.cat_rows.specs.Batches.{applied}
 use Rattle.cat_rows.specs.ByTable.{end_in, schema_in, table_in, column_in, data_file_in, delete_file_in, inlined_row_in, schema_parts, table_parts, column_parts, data_file_parts, delete_file_parts, inlined_row_parts}
 use Rattle.cat_rows.specs.Keys.{schema_key, table_key, column_key, data_file_key, delete_file_key, inlined_row_key}
 use Rattle.cat_rows.specs.Validities.{schema_validity, schema_laws, table_validity, table_laws, column_validity, column_laws, data_file_validity, data_file_laws, delete_file_validity, delete_file_laws, inlined_row_validity, inlined_row_laws}
 use Rattle.cat_rows.specs.Seen.{seen_at, BeginsPast, HidesKey, IsPast, KeepsEarlier}
 use Rattle.cat_rows.specs.Tables.{Tables}
 use Rattle.cat_rows.proofs.TableLemmas.{applied-schema, applied-table, applied-column, applied-data_file, applied-delete_file, applied-inlined_row}
-use Rattle.cat_rows.specs.declared.schemas.SchemaRow.{SchemaRow}
-use Rattle.cat_rows.specs.declared.schemas.TableRow.{TableRow}
-use Rattle.cat_rows.specs.declared.schemas.ColumnRow.{ColumnRow}
-use Rattle.cat_rows.specs.declared.files.DataFileRow.{DataFileRow}
-use Rattle.cat_rows.specs.declared.files.DeleteFileRow.{DeleteFileRow}
-use Rattle.cat_rows.specs.declared.inlined.InlinedRow.{InlinedRow}
 use Rattle.cat_rows.specs.declared.batch.Batch.{Batch}
 use Rattle.cat_rows.specs.declared.batch.CatRow.{CatRow}
 use Rattle.cat_rows.specs.declared.batch.CatRow.TheVariants as row

@@ -6,7 +6,7 @@ use Rattle.cat_tables.specs.Validity.{IsValidity, Validity, all_ended, ends_at, 
 use Rattle.cat_tables.proofs.SightLemmas.{sees-now}
 use Rattle.cat_rows.specs.Keys.{snapshot_key, snapshot_changes_key, schema_key, table_key, column_key, data_file_key, delete_file_key, file_column_stats_key, table_stats_key, inlined_row_key}
 use Rattle.cat_rows.specs.Validities.{schema_validity, table_validity, column_validity, data_file_validity, delete_file_validity, inlined_row_validity, schema_laws, table_laws, column_laws, data_file_laws, delete_file_laws, inlined_row_laws}
-use Rattle.cat_rows.specs.Batches.{added, removed, ended, applied}
+use Rattle.cat_rows.specs.Batches.{added, removed, ended}
 use Rattle.cat_rows.specs.Parts.{AppliesParts, ArePartsOf, Endings, IsPart, IsSettled, Parts, SeesParts, batch_of, seen_next, with_parts}
 use Rattle.cat_rows.specs.Seen.{seen_at}
 use Rattle.cat_rows.specs.Tables.{Tables}

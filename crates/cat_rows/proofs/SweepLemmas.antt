@@ -1,6 +1,6 @@
 -- One pass that leaves the rows of some keys out takes away the rows of each of them.
 use Rattle.std.proofs.Common.{◌≡◌, ℕ, ◌&&◌, ◌||◌, Bool, true, false, cond, not, List, [], ◌∷◌, filter, refl, sym, ap, ap₂, ◌∙◌, Option, Some, None, is_some, is_eq}
-use Rattle.std.specs.List.{cons_option, filter_map, list_any}
+use Rattle.std.specs.List.{cons_option, filter_map}
 use Rattle.std.specs.Option.{option_map_or}
 use Rattle.cat_tables.specs.Table.{all_removed, has_key, key_cmp, without}
 use Rattle.cat_rows.specs.Places.{place}

@@ -1,5 +1,5 @@
 -- The least and the greatest of some values.
-use Rattle.std.specs.Prelude.{◌≡◌, ◌≢◌, ℕ, ◌<◌, ◌≤◌, nat_le, Bool, true, false, List, [], length, map, option_map, ◌⊎◌, Option, Some, None, if◌then◌else◌}
+use Rattle.std.specs.Prelude.{◌≡◌, ◌≢◌, ℕ, nat_le, Bool, true, false, List, [], length, map, option_map, ◌⊎◌, Option, Some, None, if◌then◌else◌}
 use Rattle.std.specs.List.{All, Contains, filter}
 use Rattle.lake_types.specs.Cells.{cell_at}
 use Rattle.lake_types.specs.Fits.{fits_some}

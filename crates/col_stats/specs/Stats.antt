@@ -1,5 +1,5 @@
 -- The statistics of a column's cells.
-use Rattle.std.specs.Prelude.{◌≡◌, ℕ, ◌<◌, ◌+◌, nat_lt, Bool, true, false, ◌||◌, List, ◌++◌, length, Option, Some, None, IfSome, if◌then◌else◌}
+use Rattle.std.specs.Prelude.{◌≡◌, ℕ, ◌+◌, nat_lt, Bool, true, false, ◌||◌, List, ◌++◌, length, Option, Some, None, IfSome, if◌then◌else◌}
 use Rattle.std.specs.List.{All, count_by}
 use Rattle.lake_types.specs.Cells.{cell_at}
 use Rattle.lake_types.specs.Fits.{fits}

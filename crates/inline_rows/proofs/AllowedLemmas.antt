@@ -1,9 +1,8 @@
 -- What a row may hold, tested cell by cell.
-use Rattle.std.proofs.Common.{◌≡◌, ℕ, ◌+◌, ◌-◌, ◌^◌, ◌<◌, ◌≤◌, ◌&&◌, Bool, true, List, [], ◌∷◌, length, min, Option, Some, None, refl, sym, subst, ◌∙◌, arith, Decides, IsTrue}
+use Rattle.std.proofs.Common.{◌≡◌, ℕ, ◌+◌, ◌-◌, ◌^◌, ◌≤◌, Bool, List, [], ◌∷◌, length, min, Option, Some, None, refl, subst, arith, Decides}
 use Rattle.std.specs.List.{AllByRecursion, list_all}
 use Rattle.std.specs.Prelude.{nat_le}
 use Rattle.std.proofs.lemmas.Bool.Decides.{Decides-and, Decides-like, Decides-ltb, nat_tests}
-use Rattle.lake_types.specs.Weights.{cell_weight}
 use Rattle.lake_types.specs.declared.value.Value.{Value}
 use Rattle.lake_types.specs.declared.value.Value.TheVariants as value
 use Rattle.inline_rows.specs.Allowed.{IsSmall, IsKnown, IsAllowed, AreAllowed, SpellsAllowed}

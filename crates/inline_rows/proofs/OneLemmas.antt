@@ -4,7 +4,7 @@ use Rattle.std.specs.List.{AllByRecursion}
 use Rattle.std.specs.Prelude.{nat_lt}
 use Rattle.std.proofs.lemmas.Bool.Decides.{nat_tests}
 use Rattle.lake_types.specs.declared.value.Value.{Value}
-use Rattle.inline_rows.specs.Laws.{Spells, SpellsOne}
+use Rattle.inline_rows.specs.Laws.{SpellsOne}
 use Rattle.inline_rows.specs.Reading.{decoded}
 use Rattle.inline_rows.specs.Spelling.{IsCell, RisesFrom}
 use Rattle.inline_rows.proofs.BackLemmas.{reads_back}

@@ -1,7 +1,7 @@
 -- Where reading stops, the first wrong item stands.
-use Rattle.std.proofs.Common.{◌≡◌, ℕ, zero, suc, ◌+◌, ◌-◌, ◌^◌, ◌<◌, ◌≤◌, List, [], ◌∷◌, ◌++◌, length, Option, Some, None, Ok, Err, true, inl, inr, refl, sym, ap, ◌∙◌, append_assoc, arith, length-append}
+use Rattle.std.proofs.Common.{◌≡◌, ℕ, zero, suc, ◌+◌, ◌-◌, ◌^◌, List, [], ◌∷◌, ◌++◌, length, Option, Some, None, Ok, Err, true, inl, inr, refl, sym, ap, ◌∙◌, append_assoc, arith, length-append}
 use Rattle.std.specs.List.{AllByRecursion}
-use Rattle.std.specs.Prelude.{◌⊎◌, flat_map}
+use Rattle.std.specs.Prelude.{flat_map}
 use Rattle.thrift_compact.specs.Shortest.{unsigned_spelling}
 use Rattle.lake_types.specs.declared.value.Value.{Value}
 use Rattle.inline_rows.specs.Faults.{HasCause, HasNoCell, HasNoCount, IsWrongAt, IsWrongItem}

@@ -1,6 +1,5 @@
-use Rattle.std.proofs.Common.{◌≡◌, ◌∙◌, [], List, ℕ, not, false, sym, ap, rules}
+use Rattle.std.proofs.Common.{◌≡◌, ◌∙◌, List, ℕ, not, false, sym, ap, rules}
 use Rattle.std.proofs.lemmas.Fn.{filter_same}
-use Rattle.std.specs.List.{filter_map}
 use Rattle.cat_tables.specs.Table.{all_removed}
 use Rattle.cat_rows.specs.Steps.{any_picked, has_place}
 use Rattle.cat_rows.proofs.SweepLemmas.{none_picked, swept}
