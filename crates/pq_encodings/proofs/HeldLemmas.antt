@@ -13,7 +13,8 @@ use Rattle.byteorder.specs.Numbers.{little_from-cons, little_from-lt}
 use Rattle.pq_encodings.specs.declared.fault.EncFault.{EncFault}
 use Rattle.pq_encodings.specs.declared.fault.EncFault.TheVariants as fault
 use Rattle.pq_encodings.specs.Bits.{bit_of}
-use Rattle.pq_encodings.specs.Plain.{bool_at, bools_in, bools_of, i32_bytes, i32s_in, i32s_of, i64_bytes, i64s_in, i64s_of, most_bytes, string_at, string_bytes, strings_at, strings_bytes}
+use Rattle.pq_encodings.specs.declared.strings.TheConstants.{MAX_STRING}
+use Rattle.pq_encodings.specs.Plain.{bool_at, bools_in, bools_of, i32_bytes, i32s_in, i32s_of, i64_bytes, i64s_in, i64s_of, string_at, string_bytes, strings_at, strings_bytes}
 use Rattle.pq_encodings.specs.declared.plain.Physical.{Physical}
 use Rattle.pq_encodings.specs.declared.plain.Physical.TheVariants as physical
 use Rattle.pq_encodings.specs.Values.{AreInRange, AreShort, BeginsWith, HoldsBits, Values, bools, count_of, i32s, i64s, kind_of, made, strings, values_in}
@@ -147,12 +148,12 @@ string_at-taken bytes at x next small h =
           absurd (err-ok (fault.Short at) (x, next) (rw cut at h))
       | inr p ↦
           let held : nat_lt (length bytes) (at + 4) ≡ false = le-ltb (length bytes) (at + 4) p in
-          elim (cases_lt most_bytes size) [
+          elim (cases_lt MAX_STRING size) [
             | inl q ↦
-                let long : nat_lt most_bytes size ≡ true = lt-ltb most_bytes size q in
+                let long : nat_lt MAX_STRING size ≡ true = lt-ltb MAX_STRING size q in
                 absurd (err-ok (fault.LongCell at size) (x, next) (rw (held, long) at h))
             | inr q ↦
-                let short : nat_lt most_bytes size ≡ false = le-ltb most_bytes size q in
+                let short : nat_lt MAX_STRING size ≡ false = le-ltb MAX_STRING size q in
                 let parts = ok_behind (nat_lt (length bytes) (at + 4 + size)) (fault.Short at) (take size (drop (at + 4) bytes), at + 4 + size) (x, next) (rw (held, short) at h) in
                 let whole : at + 4 + size ≤ length bytes = ltb-false (length bytes) (at + 4 + size) parts.0 in
                 string_taken bytes at size x next small p whole refl (ap (λ (y : List ℕ × ℕ). y.0) parts.1) (ap (λ (y : List ℕ × ℕ). y.1) parts.1)

@@ -1,13 +1,15 @@
 -- Indices against the size.
-use Rattle.std.proofs.Common.{◌≡◌, ℕ, ◌+◌, ◌<◌, ◌≤◌, inl, inr, List, [], ◌∷◌, ◌++◌, length, drop, get_or, All, Result, Ok, Err, Option, Some, None, refl, sym, ap, subst, ◌∙◌, arith, nat_eq, nat_lt, Bool, false, true, cond}
+use Rattle.std.proofs.Common.{◌≡◌, ℕ, ◌+◌, ◌<◌, ◌≤◌, inl, inr, List, [], ◌∷◌, ◌++◌, length, drop, get_or, All, Result, Ok, Err, Option, Some, None, refl, sym, ap, subst, ◌∙◌, arith, nat_eq, nat_lt, Bool, MatchBool, false, true, cond}
 use Rattle.std.proofs.Math.Dec.{eqb-suc-zero}
 use Rattle.std.proofs.lemmas.Bool.{cases_lt, eq-eqb, le-ltb, lt-ltb, ltb-true}
 use Rattle.std.proofs.lemmas.List.Elements.{All-cons, All-head, All-nil, All-tail}
 use Rattle.pq_encodings.specs.declared.fault.EncFault.{EncFault}
 use Rattle.pq_encodings.specs.declared.fault.EncFault.TheVariants as fault
-use Rattle.pq_encodings.specs.Answers.{Fails}
+use Rattle.answers.specs.Answers.{Fails}
+use Rattle.answers.proofs.AnswerLemmas.{stands}
+use Rattle.pq_encodings.specs.Faults.{is_memory}
 use Rattle.pq_encodings.specs.Indices.{bad_index, checked, indices_in, or_else}
-use Rattle.pq_encodings.specs.Runs.{Reading, Reads, Stops, runs_from, runs_in}
+use Rattle.pq_encodings.specs.Runs.{HasFront, Reading, Reads, Stops, runs_from, runs_in}
 use Rattle.pq_encodings.specs.Grammar.{HoldsIndices, HoldsRuns}
 use Rattle.pq_encodings.proofs.GrammarLemmas.{all_of-is, held_count, holds_nothing, runs_in-held, runs_in-of_held}
 use Rattle.pq_encodings.proofs.RunLemmas.{none_wanted}
@@ -21,23 +23,14 @@ bad_index-more size at (x ∷ xs) ys e h =
     [ true ↦ bad_index-more size (at + 1) xs ys e | false ↦ λ k. k ] h
 
 refuses : (size : ℕ) (kept : List ℕ) (e b : EncFault) (r : Reading) → Stops kept e r → bad_index size 0 kept ≡ Some b → checked size r ≡ Err b
-refuses size kept fault.Memory b r h bad = rw (h.1, bad_index-more size 0 kept h.0 b bad) refl
-refuses size kept (fault.Short a) b r h bad = rw (h.0, bad) refl
-refuses size kept (fault.BadRun a) b r h bad = rw (h.0, bad) refl
-refuses size kept (fault.BadIndex a i s) b r h bad = rw (h.0, bad) refl
-refuses size kept (fault.LongCell a l) b r h bad = rw (h.0, bad) refl
-
-fails : (e : EncFault) (read : Result (List ℕ) EncFault) → read ≡ Err e → Fails e read
-fails fault.Memory read h = tt
-fails (fault.Short a) read h = h
-fails (fault.BadRun a) read h = h
-fails (fault.BadIndex a i s) read h = h
-fails (fault.LongCell a l) read h = h
+refuses size kept e b r h bad =
+    elim (is_memory e) as (λ c. MatchBool c (HasFront kept r) ((r.values ≡ kept) × (r.ended ≡ Some e)) → checked size r ≡ Err b)
+    [ true ↦ λ is. rw (is.1, bad_index-more size 0 kept is.0 b bad) refl | false ↦ λ is. rw (is.0, bad) refl ] h
 
 -- a bad index is answered, however the reading ended
-pub refused : (size : ℕ) (kept : List ℕ) (read : Result (Unit {0}) EncFault) (b : EncFault) (r : Reading) → Reads kept read r → bad_index size 0 kept ≡ Some b → Fails b (checked size r)
-refused size kept (Ok x) b r h bad = fails b (checked size r) (rw (h.0, bad) refl)
-refused size kept (Err e) b r h bad = fails b (checked size r) (refuses size kept e b r h bad)
+pub refused : (size : ℕ) (kept : List ℕ) (read : Result (Unit {0}) EncFault) (b : EncFault) (r : Reading) → Reads kept read r → bad_index size 0 kept ≡ Some b → Fails is_memory b (checked size r)
+refused size kept (Ok x) b r h bad = stands is_memory b (checked size r) (rw (h.0, bad) refl)
+refused size kept (Err e) b r h bad = stands is_memory b (checked size r) (refuses size kept e b r h bad)
 
 -- ---- The indices that the bytes hold
 

@@ -1,4 +1,3 @@
-pub mod AnswerLemmas
 pub mod BitLemmas
 pub mod VarintLemmas
 pub mod RunLemmas

@@ -1,9 +1,11 @@
 -- Plain values one after the other.
-use Rattle.std.proofs.Common.{◌≡◌, ℕ, ◌+◌, List, ◌++◌, ◌∷◌, [], map, sym, ap, ◌∙◌, arith, append_assoc, take, length, get_or, ◌<◌, ◌≤◌, ◌-◌, suc, Result, Ok, Err, refl, Vec, Global, All}
+use Rattle.std.proofs.Common.{◌≡◌, ℕ, ◌+◌, List, ◌++◌, ◌∷◌, [], map, sym, ap, ◌∙◌, arith, append_assoc, take, length, get_or, true, false, ◌<◌, ◌≤◌, ◌-◌, suc, Result, Ok, Err, refl, Vec, Global, All}
 use Rattle.pq_encodings.specs.declared.fault.EncFault.{EncFault}
-use Rattle.pq_encodings.specs.declared.fault.EncFault.TheVariants as fault
-use Rattle.pq_encodings.specs.Plain.{behind, most_bytes, onto, string_at, strings_at}
-use Rattle.pq_encodings.specs.Answers.{Fails}
+use Rattle.pq_encodings.specs.declared.strings.TheConstants.{MAX_STRING}
+use Rattle.pq_encodings.specs.Plain.{behind, onto, string_at, strings_at}
+use Rattle.std.specs.Bool.{OnFalse}
+use Rattle.answers.specs.Answers.{Fails}
+use Rattle.pq_encodings.specs.Faults.{is_memory}
 use Rattle.std.proofs.lemmas.List.{append-nil, get_or-map, length-map, take_more}
 use Rattle.std.proofs.lemmas.Grind.{flat_map-append}
 use Rattle.std.specs.List.{range_with_len, flat_map}
@@ -30,13 +32,13 @@ pub ruleset plain_rules = (one_more_place, flat_more)
 pub ruleset bit_rules = (shr_and_one)
 
 -- what holds of each byte string of a list holds of each Vec that keeps one
-pub each_is_short : (vs : List (Vec ℕ Global)) (xs : List (List ℕ)) → map (λ (v : Vec ℕ Global). v.items) vs ≡ xs → All (λ x. length x ≤ most_bytes) xs →
-    (k : ℕ) (d : Vec ℕ Global) → k < length vs → length (get_or vs k d).items ≤ most_bytes
+pub each_is_short : (vs : List (Vec ℕ Global)) (xs : List (List ℕ)) → map (λ (v : Vec ℕ Global). v.items) vs ≡ xs → All (λ x. length x ≤ MAX_STRING) xs →
+    (k : ℕ) (d : Vec ℕ Global) → k < length vs → length (get_or vs k d).items ≤ MAX_STRING
 each_is_short vs xs e short k d h =
     let same : get_or xs k d.items ≡ (get_or vs k d).items =
     ap (λ ys. get_or ys k d.items) (sym e) ∙ get_or-map (λ (v : Vec ℕ Global). v.items) vs k d d.items h in
     let within : k < length xs = omega (arith, simp length-map at (ap length e)) in
-    let here : length (get_or xs k d.items) ≤ most_bytes = short k d.items within in
+    let here : length (get_or xs k d.items) ≤ MAX_STRING = short k d.items within in
     omega (arith, ap length same)
 
 regroup : (front : List (List ℕ)) (x : List ℕ) (r : Result (List (List ℕ)) EncFault) → behind front (onto x r) ≡ behind (front ++ x ∷ []) r
@@ -60,13 +62,11 @@ string_refused front count turn at bytes e total lt h so_far =
     let one : behind front (strings_at (count - turn) bytes at) ≡ Err e = rw (fuel, h) refl in
     sym so_far ∙ one
 
-pub strings_stop : (e : EncFault) (front : List (List ℕ)) (count turn at : ℕ) (bytes : List ℕ) (total : Result (List (List ℕ)) EncFault) → turn < count → Fails e (string_at bytes at)
-    → behind front (strings_at (count - turn) bytes at) ≡ total → Fails e total
-strings_stop fault.Memory front count turn at bytes total lt h so_far = tt
-strings_stop (fault.Short a) front count turn at bytes total lt h so_far = string_refused front count turn at bytes (fault.Short a) total lt h so_far
-strings_stop (fault.BadRun a) front count turn at bytes total lt h so_far = string_refused front count turn at bytes (fault.BadRun a) total lt h so_far
-strings_stop (fault.BadIndex a i s) front count turn at bytes total lt h so_far = string_refused front count turn at bytes (fault.BadIndex a i s) total lt h so_far
-strings_stop (fault.LongCell a l) front count turn at bytes total lt h so_far = string_refused front count turn at bytes (fault.LongCell a l) total lt h so_far
+pub strings_stop : (e : EncFault) (front : List (List ℕ)) (count turn at : ℕ) (bytes : List ℕ) (total : Result (List (List ℕ)) EncFault) → turn < count → Fails is_memory e (string_at bytes at)
+    → behind front (strings_at (count - turn) bytes at) ≡ total → Fails is_memory e total
+strings_stop e front count turn at bytes total lt h so_far =
+    elim (is_memory e) as (λ b. OnFalse b (string_at bytes at ≡ Err e) → OnFalse b (total ≡ Err e))
+    [ true ↦ λ u. tt | false ↦ λ is. string_refused front count turn at bytes e total lt is so_far ] h
 
 pub strings_done : (front : List (List ℕ)) (count turn at : ℕ) (bytes : List ℕ) (total : Result (List (List ℕ)) EncFault) → count ≤ turn
     → behind front (strings_at (count - turn) bytes at) ≡ total → total ≡ Ok front

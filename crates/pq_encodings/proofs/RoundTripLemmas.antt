@@ -16,7 +16,8 @@ use Rattle.byteorder.specs.Numbers.{length-bytes_low_first, little_number-reads_
 use Rattle.pq_encodings.specs.declared.fault.EncFault.{EncFault}
 use Rattle.pq_encodings.specs.declared.fault.EncFault.TheVariants as fault
 use Rattle.pq_encodings.specs.Bits.{number_of_bits}
-use Rattle.pq_encodings.specs.Plain.{bool_at, bool_bit, bool_byte, bool_bytes, bools_in, i32_bytes, i32s_in, i64_bytes, i64s_in, most_bytes, onto, string_at, string_bytes, strings_at, strings_bytes, then_more}
+use Rattle.pq_encodings.specs.declared.strings.TheConstants.{MAX_STRING}
+use Rattle.pq_encodings.specs.Plain.{bool_at, bool_bit, bool_byte, bool_bytes, bools_in, i32_bytes, i32s_in, i64_bytes, i64s_in, onto, string_at, string_bytes, strings_at, strings_bytes, then_more}
 use Rattle.pq_encodings.specs.Values.{AreInRange, AreShort, IsReadAgain, Values, bools, i32s, i64s, made, strings, value_bytes}
 use Rattle.pq_encodings.proofs.BoolLemmas.{bool_bit-lt, number_of_bits-lt}
 
@@ -125,21 +126,21 @@ bools_in-bytes xs rest =
 abbrev string_of : List ℕ → ℕ → ℕ → Result (List ℕ × ℕ) EncFault
 string_of bytes at size =
     cond (nat_lt (length bytes) (at + 4)) (Err (fault.Short at))
-    (cond (nat_lt most_bytes size) (Err (fault.LongCell at size))
+    (cond (nat_lt MAX_STRING size) (Err (fault.LongCell at size))
     (cond (nat_lt (length bytes) (at + 4 + size)) (Err (fault.Short at))
     (Ok (take size (drop (at + 4) bytes), at + 4 + size))))
 
 -- a byte string is read where its parts stand
-string_at-parts : (bytes x : List ℕ) (at size : ℕ) → little_number 4 (drop at bytes) ≡ size → size ≤ most_bytes → at + 4 + size ≤ length bytes →
+string_at-parts : (bytes x : List ℕ) (at size : ℕ) → little_number 4 (drop at bytes) ≡ size → size ≤ MAX_STRING → at + 4 + size ≤ length bytes →
     take size (drop (at + 4) bytes) ≡ x → string_at bytes at ≡ Ok (x, at + 4 + size)
 string_at-parts bytes x at size number short whole text =
     let first : nat_lt (length bytes) (at + 4) ≡ false = le-ltb (length bytes) (at + 4) (omega arith) in
-    let few : nat_lt most_bytes size ≡ false = le-ltb most_bytes size short in
+    let few : nat_lt MAX_STRING size ≡ false = le-ltb MAX_STRING size short in
     let last : nat_lt (length bytes) (at + 4 + size) ≡ false = le-ltb (length bytes) (at + 4 + size) whole in
     let read : string_of bytes at size ≡ Ok (x, at + 4 + size) = rw (first, few, last) (ap (λ (ys : List ℕ). Ok (ys, at + 4 + size)) text) in
     ap (λ n. string_of bytes at n) number ∙ read
 
-string_at-bytes : (front x tail : List ℕ) → length x ≤ most_bytes → string_at (front ++ (string_bytes x ++ tail)) (length front) ≡ Ok (x, length front + 4 + length x)
+string_at-bytes : (front x tail : List ℕ) → length x ≤ MAX_STRING → string_at (front ++ (string_bytes x ++ tail)) (length front) ≡ Ok (x, length front + 4 + length x)
 string_at-bytes front x tail short =
     let size : ℕ = length x in
     let head : List ℕ = little_bytes 4 size in
@@ -154,7 +155,7 @@ string_at-bytes front x tail short =
     omega (arith, length-append front (string_bytes x ++ tail), length-append (string_bytes x) tail, length-append head x) in
     string_at-parts bytes x (length front) size number short whole (ap (λ ys. take size ys) behind ∙ take-append_seam x tail)
 
-strings_at-bytes : (xs : List (List ℕ)) (front rest : List ℕ) → All (λ x. length x ≤ most_bytes) xs → strings_at (length xs) (front ++ (strings_bytes xs ++ rest)) (length front) ≡ Ok xs
+strings_at-bytes : (xs : List (List ℕ)) (front rest : List ℕ) → All (λ x. length x ≤ MAX_STRING) xs → strings_at (length xs) (front ++ (strings_bytes xs ++ rest)) (length front) ≡ Ok xs
 unfolding strings_at
 strings_at-bytes [] front rest short = refl
 strings_at-bytes (x ∷ xs) front rest short =
@@ -166,14 +167,14 @@ strings_at-bytes (x ∷ xs) front rest short =
     let place : length (front ++ string_bytes x) ≡ next =
     omega (arith, length-append front (string_bytes x), length-append (little_bytes 4 (length x)) x, length-bytes_low_first 0 4 (length x)) in
     let later : strings_at (length xs) ((front ++ string_bytes x) ++ tail) (length (front ++ string_bytes x)) ≡ Ok xs =
-    strings_at-bytes xs (front ++ string_bytes x) rest (All-tail (λ x. length x ≤ most_bytes) x xs short) in
+    strings_at-bytes xs (front ++ string_bytes x) rest (All-tail (λ x. length x ≤ MAX_STRING) x xs short) in
     let rest_is : strings_at (length xs) bytes next ≡ Ok xs = ap (λ ys. strings_at (length xs) ys next) (sym onward) ∙ ap (λ n. strings_at (length xs) ((front ++ string_bytes x) ++ tail) n) (sym place) ∙ later in
-    let first : string_at bytes (length front) ≡ Ok (x, next) = string_at-bytes front x tail (All-head (λ x. length x ≤ most_bytes) x xs short) in
+    let first : string_at bytes (length front) ≡ Ok (x, next) = string_at-bytes front x tail (All-head (λ x. length x ≤ MAX_STRING) x xs short) in
     ap (λ ys. then_more (string_at ys (length front)) (strings_at (length xs) ys)) regrouped
     ∙ ap (λ r. then_more r (strings_at (length xs) bytes)) first
     ∙ ap (λ r. onto x r) rest_is
 
-strings_in-bytes : (xs : List (List ℕ)) (rest : List ℕ) → All (λ x. length x ≤ most_bytes) xs → strings_at (length xs) (strings_bytes xs ++ rest) 0 ≡ Ok xs
+strings_in-bytes : (xs : List (List ℕ)) (rest : List ℕ) → All (λ x. length x ≤ MAX_STRING) xs → strings_at (length xs) (strings_bytes xs ++ rest) 0 ≡ Ok xs
 strings_in-bytes xs rest short = strings_at-bytes xs [] rest short
 
 -- ---- Values of each type

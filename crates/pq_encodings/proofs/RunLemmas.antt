@@ -1,14 +1,15 @@
 -- Runs one after the other.
-use Rattle.std.proofs.Common.{◌≡◌, ℕ, zero, suc, ◌+◌, ◌-◌, ◌*◌, ◌^◌, ◌<◌, ◌≤◌, List, [], ◌++◌, length, drop, get_or, Ok, Err, Some, None, refl, sym, ap, ◌∙◌, arith, append_assoc, length-append, nat_eq, false}
+use Rattle.std.proofs.Common.{◌≡◌, ℕ, true, MatchBool, zero, suc, ◌+◌, ◌-◌, ◌*◌, ◌^◌, ◌<◌, ◌≤◌, List, [], ◌++◌, length, drop, get_or, Ok, Err, Some, None, refl, sym, ap, ◌∙◌, arith, append_assoc, length-append, nat_eq, false}
 use Rattle.std.proofs.Math.Nat.{pow-le-pow_right}
 use Rattle.std.proofs.lemmas.List.{append-nil}
 use Rattle.std.proofs.lemmas.Nat.{mul-le}
 use Rattle.byteorder.specs.Endian.{little_number}
 use Rattle.byteorder.specs.Numbers.{little_from-lt}
 use Rattle.pq_encodings.specs.declared.fault.EncFault.{EncFault}
-use Rattle.pq_encodings.specs.declared.fault.EncFault.TheVariants as fault
-use Rattle.pq_encodings.specs.Answers.{Fails}
-use Rattle.pq_encodings.specs.Runs.{Reading, Stops, in_front, no_more, run_at, runs_in}
+use Rattle.std.specs.Bool.{OnFalse}
+use Rattle.answers.specs.Answers.{Fails}
+use Rattle.pq_encodings.specs.Faults.{is_memory}
+use Rattle.pq_encodings.specs.Runs.{HasFront, Reading, Stops, in_front, no_more, run_at, runs_in}
 
 pub number_small : (n : ℕ) (xs : List ℕ) → ((k : ℕ) → get_or xs k 0 < 256) → n ≤ 4 → little_number n xs < 2 ^ 32
 number_small n xs small h =
@@ -75,15 +76,14 @@ at_fault front count turn width at bytes e total lt some h so_far =
     (ap (λ r. r.values) whole ∙ append-nil front, ap (λ r. r.ended) whole)
 
 pub stops : (e : EncFault) (front : List ℕ) (count turn width at : ℕ) (bytes : List ℕ) (total : Reading) → turn < count → length front < count
-    → Fails e (run_at width bytes (count - length front) at)
+    → Fails is_memory e (run_at width bytes (count - length front) at)
     → in_front front (runs_in (count - turn) width bytes (count - length front) at) ≡ total
     → Stops front e total
-stops fault.Memory front count turn width at bytes total lt some h so_far =
-    ((runs_in (count - turn) width bytes (count - length front) at).values, sym (ap (λ r. r.values) so_far))
-stops (fault.Short a) front count turn width at bytes total lt some h so_far = at_fault front count turn width at bytes (fault.Short a) total lt some h so_far
-stops (fault.BadRun a) front count turn width at bytes total lt some h so_far = at_fault front count turn width at bytes (fault.BadRun a) total lt some h so_far
-stops (fault.BadIndex a i s) front count turn width at bytes total lt some h so_far = at_fault front count turn width at bytes (fault.BadIndex a i s) total lt some h so_far
-stops (fault.LongCell a l) front count turn width at bytes total lt some h so_far = at_fault front count turn width at bytes (fault.LongCell a l) total lt some h so_far
+stops e front count turn width at bytes total lt some h so_far =
+    elim (is_memory e) as (λ b. OnFalse b (run_at width bytes (count - length front) at ≡ Err e) → MatchBool b (HasFront front total) ((total.values ≡ front) × (total.ended ≡ Some e))) [
+      | true ↦ λ u. ((runs_in (count - turn) width bytes (count - length front) at).values, sym (ap (λ r. r.values) so_far))
+      | false ↦ λ is. at_fault front count turn width at bytes e total lt some is so_far
+    ] h
 
 -- all that is wanted was read
 pub is_done : (front : List ℕ) (count most width at : ℕ) (bytes : List ℕ) (total : Reading) → length front ≡ count

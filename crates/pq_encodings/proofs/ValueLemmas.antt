@@ -9,7 +9,8 @@ use Rattle.pq_encodings.specs.declared.fault.EncFault.{EncFault}
 use Rattle.pq_encodings.specs.declared.fault.EncFault.TheVariants as fault
 use Rattle.pq_encodings.specs.declared.plain.Physical.{Physical}
 use Rattle.pq_encodings.specs.declared.plain.Physical.TheVariants as physical
-use Rattle.pq_encodings.specs.Plain.{bool_at, bools_in, bools_of, i32_at, i32s_in, i32s_of, i64_at, i64s_in, i64s_of, most_bytes, onto, string_at, strings_at, then_more}
+use Rattle.pq_encodings.specs.declared.strings.TheConstants.{MAX_STRING}
+use Rattle.pq_encodings.specs.Plain.{bool_at, bools_in, bools_of, i32_at, i32s_in, i32s_of, i64_at, i64s_in, i64s_of, onto, string_at, strings_at, then_more}
 use Rattle.pq_encodings.specs.Values.{AreShort, Values, bools, count_of, i32s, i64s, kind_of, made, strings, values_in}
 
 -- ---- What was read is short, and as much as was wanted
@@ -47,7 +48,7 @@ of_i64s bytes count xs h =
     record { same = refl; short = tt; size = sym (ap length parts.1) ∙ length-map-range_with_len (i64_at bytes) 0 count }
 
 -- a byte string that was read is short
-string_at-short : (bytes : List ℕ) (at : ℕ) (x : List ℕ) (next : ℕ) → string_at bytes at ≡ Ok (x, next) → length x ≤ most_bytes
+string_at-short : (bytes : List ℕ) (at : ℕ) (x : List ℕ) (next : ℕ) → string_at bytes at ≡ Ok (x, next) → length x ≤ MAX_STRING
 string_at-short bytes at x next h =
     let size : ℕ = little_number 4 (drop at bytes) in
     elim (cases_lt (length bytes) (at + 4)) [
@@ -56,12 +57,12 @@ string_at-short bytes at x next h =
           absurd (string_fault (fault.Short at) (x, next) (rw cut at h))
       | inr p ↦
           let held : nat_lt (length bytes) (at + 4) ≡ false = le-ltb (length bytes) (at + 4) p in
-          elim (cases_lt most_bytes size) [
+          elim (cases_lt MAX_STRING size) [
             | inl q ↦
-                let long : nat_lt most_bytes size ≡ true = lt-ltb most_bytes size q in
+                let long : nat_lt MAX_STRING size ≡ true = lt-ltb MAX_STRING size q in
                 absurd (string_fault (fault.LongCell at size) (x, next) (rw (held, long) at h))
             | inr q ↦
-                let short : nat_lt most_bytes size ≡ false = le-ltb most_bytes size q in
+                let short : nat_lt MAX_STRING size ≡ false = le-ltb MAX_STRING size q in
                 let parts = ok_behind (nat_lt (length bytes) (at + 4 + size)) (fault.Short at) (take size (drop (at + 4) bytes), at + 4 + size) (x, next) (rw (held, short) at h) in
                 let same : take size (drop (at + 4) bytes) ≡ x = ap (λ (y : List ℕ × ℕ). y.0) parts.1 in
                 omega (arith, ap length same, length-take size (drop (at + 4) bytes))
@@ -82,20 +83,20 @@ then_more-is (Ok x) go xs h = (x, refl, h)
 then_more-is (Err e) go xs h = cc
 
 pub record AreAsked (count : ℕ) (xs : List (List ℕ)) : Type 0 where
-  pub short : All (λ x. length x ≤ most_bytes) xs
+  pub short : All (λ x. length x ≤ MAX_STRING) xs
   pub size : length xs ≡ count
 
 strings_at-asked : (count : ℕ) (bytes : List ℕ) (at : ℕ) (xs : List (List ℕ)) → strings_at count bytes at ≡ Ok xs → AreAsked count xs
 unfolding strings_at
 strings_at-asked zero bytes at xs h =
     let same : [] ≡ xs = cc in
-    rw (← same) (record { short = All-nil (λ x. length x ≤ most_bytes); size = refl })
+    rw (← same) (record { short = All-nil (λ x. length x ≤ MAX_STRING); size = refl })
 strings_at-asked (suc count) bytes at xs h =
     let first = then_more-is (string_at bytes at) (strings_at count bytes) xs h in
     let more = onto-is first.0.0 (strings_at count bytes first.0.1) xs first.2 in
     let rest = strings_at-asked count bytes first.0.1 more.0 more.1 in
     let here = string_at-short bytes at first.0.0 first.0.1 first.1 in
-    rw (← more.2) (record { short = All-cons (λ x. length x ≤ most_bytes) first.0.0 more.0 here rest.short; size = omega (arith, rest.size) })
+    rw (← more.2) (record { short = All-cons (λ x. length x ≤ MAX_STRING) first.0.0 more.0 here rest.short; size = omega (arith, rest.size) })
 
 pub values_in-asked : (kind : Physical) (count : ℕ) (bytes : List ℕ) (vs : Values) → values_in kind count bytes ≡ Ok vs → IsAsked kind count vs
 values_in-asked physical.Boolean count bytes vs h =

@@ -1,4 +1,4 @@
-pub mod Answers
+pub mod Faults
 pub mod Bits
 pub mod Varint
 pub mod Runs

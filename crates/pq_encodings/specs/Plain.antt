@@ -5,6 +5,7 @@ use Rattle.std.specs.List.{range_with_len, flat_map}
 use Rattle.byteorder.specs.Endian.{little_number, little_bytes}
 use Rattle.pq_encodings.specs.declared.fault.EncFault.{EncFault}
 use Rattle.pq_encodings.specs.declared.fault.EncFault.TheVariants as fault
+use Rattle.pq_encodings.specs.declared.strings.TheConstants.{MAX_STRING}
 use Rattle.pq_encodings.specs.Bits.{bit_of, number_of_bits}
 
 -- ---- Numbers of 4 and of 8 bytes, the low byte first
@@ -65,16 +66,12 @@ bool_bytes xs = map (λ k. bool_byte xs (8 * k)) (range_with_len 0 ((length xs +
 
 -- ---- Byte strings, each behind a length of four bytes, the low byte first
 
--- the most bytes of one
-abbrev pub most_bytes : ℕ
-most_bytes = 16777216
-
 -- the byte string at a place, and where it ends
 abbrev pub string_at : List ℕ → ℕ → Result (List ℕ × ℕ) EncFault
 string_at bytes at =
     let size = little_number 4 (drop at bytes) in
     if nat_lt (length bytes) (at + 4) then Err (fault.Short at)
-    else (if nat_lt most_bytes size then Err (fault.LongCell at size)
+    else (if nat_lt MAX_STRING size then Err (fault.LongCell at size)
     else (if nat_lt (length bytes) (at + 4 + size) then Err (fault.Short at)
     else Ok (take size (drop (at + 4) bytes), at + 4 + size)))
 

@@ -1,11 +1,12 @@
 -- The reading of hybrid runs: the values up to the first fault, and that fault.
-use Rattle.std.specs.Prelude.{◌≡◌, ℕ, zero, suc, ◌+◌, ◌-◌, ◌*◌, ◌/◌, ◌%◌, ◌++◌, min, nat_lt, nat_eq, if◌then◌else◌, List, [], length, drop, replicate, Result, Ok, Err, Option, Some, None}
+use Rattle.std.specs.Prelude.{◌≡◌, MatchBool, ℕ, zero, suc, ◌+◌, ◌-◌, ◌*◌, ◌/◌, ◌%◌, ◌++◌, min, nat_lt, nat_eq, if◌then◌else◌, List, [], length, drop, replicate, Result, Ok, Err, Option, Some, None}
 use Rattle.byteorder.specs.Endian.{little_number}
 use Rattle.pq_encodings.specs.declared.fault.EncFault.{EncFault}
 use Rattle.pq_encodings.specs.declared.fault.EncFault.TheVariants as fault
 use Rattle.pq_encodings.specs.declared.varint.Varint.{Varint}
 use Rattle.pq_encodings.specs.declared.varint.Varint.TheVariants as varint
-use Rattle.pq_encodings.specs.Answers.{Fails}
+use Rattle.answers.specs.Answers.{Fails}
+use Rattle.pq_encodings.specs.Faults.{is_memory}
 use Rattle.pq_encodings.specs.Bits.{packed_numbers}
 use Rattle.pq_encodings.specs.Varint.{varint_in}
 
@@ -87,14 +88,14 @@ levels_in width bytes count =
     let r = runs_from width bytes count 0 in
     all_of r.values r.ended
 
+-- the values that were kept are the first that the reading has
+abbrev pub HasFront : List ℕ → Reading → Type 0
+HasFront kept r = (more : List ℕ) × (r.values ≡ kept ++ more)
+
 -- What a body that reads runs has kept where it ended at a fault: the values before the fault; where memory ran out,
 -- the first of them.
 abbrev pub Stops : List ℕ → EncFault → Reading → Type 0
-Stops kept fault.Memory r = (more : List ℕ) × (r.values ≡ kept ++ more)
-Stops kept (fault.Short at) r = (r.values ≡ kept) × (r.ended ≡ Some (fault.Short at))
-Stops kept (fault.BadRun at) r = (r.values ≡ kept) × (r.ended ≡ Some (fault.BadRun at))
-Stops kept (fault.BadIndex at index size) r = (r.values ≡ kept) × (r.ended ≡ Some (fault.BadIndex at index size))
-Stops kept (fault.LongCell at length) r = (r.values ≡ kept) × (r.ended ≡ Some (fault.LongCell at length))
+Stops kept e r = MatchBool (is_memory e) (HasFront kept r) ((r.values ≡ kept) × (r.ended ≡ Some e))
 
 abbrev pub Reads : List ℕ → Result (Unit {0}) EncFault → Reading → Type 0
 Reads kept (Ok x) r = (r.values ≡ kept) × (r.ended ≡ None)
@@ -103,4 +104,4 @@ Reads kept (Err e) r = Stops kept e r
 -- the same of a body that appends one run's values and answers how many bytes it takes
 abbrev pub Appends : List ℕ → List ℕ → Result ℕ EncFault → Result (List ℕ × ℕ) EncFault → Type 0
 Appends old new (Ok used) read = (xs : List ℕ) × (read ≡ Ok (xs, used)) × (new ≡ old ++ xs)
-Appends old new (Err e) read = Fails e read
+Appends old new (Err e) read = Fails is_memory e read

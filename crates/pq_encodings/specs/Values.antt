@@ -8,7 +8,8 @@ use Rattle.pq_encodings.specs.declared.plain.Physical.TheVariants as physical
 use Rattle.pq_encodings.specs.declared.plain.Plain.{Plain}
 use Rattle.pq_encodings.specs.declared.plain.Plain.TheVariants as plain
 use Rattle.pq_encodings.specs.Bits.{bit_of}
-use Rattle.pq_encodings.specs.Plain.{bool_bit, bool_bytes, bools_in, i32_bytes, i32s_in, i64_bytes, i64s_in, most_bytes, strings_at, strings_bytes}
+use Rattle.pq_encodings.specs.declared.strings.TheConstants.{MAX_STRING}
+use Rattle.pq_encodings.specs.Plain.{bool_bit, bool_bytes, bools_in, i32_bytes, i32s_in, i64_bytes, i64s_in, strings_at, strings_bytes}
 
 -- plain values as lists
 pub data Values : Type 0 where
@@ -61,12 +62,12 @@ plain_size (i32s xs) = 4 * length xs
 plain_size (i64s xs) = 8 * length xs
 plain_size (strings xs) = sum_by (λ x. 4 + length x) xs
 
--- each byte string has at most 16,777,216 bytes
+-- no byte string is too long
 abbrev pub AreShort : Values → Type 0
 AreShort (bools xs) = Unit {0}
 AreShort (i32s xs) = Unit {0}
 AreShort (i64s xs) = Unit {0}
-AreShort (strings xs) = All (λ x. length x ≤ most_bytes) xs
+AreShort (strings xs) = All (λ x. length x ≤ MAX_STRING) xs
 
 -- Each number is one of its type. A contract sees an i32 or an i64 as an integer of any size.
 abbrev pub AreInRange : Values → Type 0

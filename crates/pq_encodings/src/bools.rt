@@ -1,7 +1,8 @@
 //! Plain BOOLEAN: a bit each, the low bit of a byte first.
 
 ghost use Rattle.std.specs.Prelude.{◌≡◌, ◌≤◌, ◌+◌, ◌*◌, ◌<◌, length, IfOk};
-ghost use Rattle.pq_encodings.specs.Answers.{Gives};
+ghost use Rattle.answers.specs.Answers.{Gives};
+ghost use Rattle.pq_encodings.specs.Faults.{is_memory};
 ghost use Rattle.pq_encodings.specs.Plain as spec;
 
 use crate::fault::EncFault;
@@ -32,7 +33,7 @@ fn first_bools(alloc: Global, bytes: &[u8], count: usize) -> Result<Vec<bool>, A
 
 /// `count` booleans, or the place of the byte that is missing.
 pub fn decode_bools(alloc: Global, bytes: &[u8], count: u64) -> Result<Vec<bool>, EncFault>
-    ensures { Gives (λ v. v.items) result (spec.bools_in bytes.now count) }
+    ensures { Gives is_memory (λ v. v.items) result (spec.bools_in bytes.now count) }
 {
     let len = bytes.len() as u64;
     if count.div_ceil(8) > len {

@@ -20,7 +20,7 @@ pub enum EncFault {
     /// Value number `at`, from 0, is an index that isn't below the dictionary's size.
     #[error("value {at} is index {index} into {size} values")]
     BadIndex { at: u64, index: u64, size: u64 },
-    /// A byte string of more than 16,777,216 bytes.
+    /// A byte string of more than `MAX_STRING` bytes.
     #[error("byte string of {length} bytes at {at}")]
     LongCell { at: u64, length: u64 },
     /// Memory ran out.

@@ -2,7 +2,8 @@
 
 ghost use Rattle.std.specs.Prelude.{◌≡◌, ◌<◌, ℕ, List, All, length, Ok, Err, Some, None, IfOk, IsOk, MatchResult};
 ghost use Rattle.std.specs.Vec.{vec_len};
-ghost use Rattle.pq_encodings.specs.Answers.{Gives};
+ghost use Rattle.answers.specs.Answers.{Gives};
+ghost use Rattle.pq_encodings.specs.Faults.{is_memory};
 ghost use Rattle.pq_encodings.specs.Grammar.{HoldsIndices};
 ghost use Rattle.pq_encodings.specs.Indices.{bad_index, indices_in};
 ghost use Rattle.pq_encodings.specs.Indices as spec;
@@ -31,7 +32,7 @@ fn check(indices: &[u32], size: u64) -> Result<(), EncFault>
 
 /// The indices, unless one isn't below the size or the reading ended at a fault.
 fn checked(indices: Vec<u32>, read: Result<(), EncFault>, size: u64) -> Result<Vec<u32>, EncFault>
-    ensures gives { (r : Reading) → Reads indices.items read r → Gives (λ v. v.items) result (spec.checked size r) }
+    ensures gives { (r : Reading) → Reads indices.items read r → Gives is_memory (λ v. v.items) result (spec.checked size r) }
     ensures same { IfOk result (λ v. IsOk read × (v.items ≡ indices.items)) }
 {
     match check(&indices, size) {
@@ -45,7 +46,7 @@ fn checked(indices: Vec<u32>, read: Result<(), EncFault>, size: u64) -> Result<V
 
 /// The first `count` indices, or the first fault.
 fn first_indices(alloc: Global, bytes: &[u8], count: u64, size: u64) -> Result<Vec<u32>, EncFault>
-    ensures gives { Gives (λ v. v.items) result (indices_in bytes.now count size) }
+    ensures gives { Gives is_memory (λ v. v.items) result (indices_in bytes.now count size) }
     ensures count { IfOk result (λ v. vec_len v ≡ count) }
 {
     let mut out = Vec::new(alloc);
@@ -74,10 +75,10 @@ pub fn decode_indices(
 ) -> Result<Vec<u32>, EncFault>
     // What is answered is held, and what is held is answered, unless memory runs out.
     ensures held { IfOk result (λ v. HoldsIndices count size bytes.now v.items) }
-    ensures only { (xs : List ℕ) → HoldsIndices count size bytes.now xs → Gives (λ v. v.items) result (Ok xs) }
+    ensures only { (xs : List ℕ) → HoldsIndices count size bytes.now xs → Gives is_memory (λ v. v.items) result (Ok xs) }
 
     // Which fault it is, and its place.
-    ensures gives { Gives (λ v. v.items) result (indices_in bytes.now count size) }
+    ensures gives { Gives is_memory (λ v. v.items) result (indices_in bytes.now count size) }
     ensures count { IfOk result (λ v. vec_len v ≡ count) }
     ensures below { IfOk result (λ v. All (λ x. x < size) v.items) }
 {

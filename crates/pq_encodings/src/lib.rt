@@ -13,8 +13,6 @@ mod numbers;
 mod plain;
 mod runs;
 mod strings;
-#[cfg(test)]
-mod tests;
 mod varint;
 
 pub use fault::EncFault;
@@ -24,4 +22,4 @@ pub use laws::{reads_as_asked, reads_back, sizes};
 pub use levels::encode_levels;
 pub use plain::{Physical, Plain, decode_plain, encode_plain};
 pub use runs::decode_levels;
-pub use strings::ByteLists;
+pub use strings::{ByteLists, MAX_STRING};

@@ -1,7 +1,8 @@
 //! Plain INT32 and INT64: four or eight bytes each, the low byte first.
 
 ghost use Rattle.std.specs.Prelude.{◌≡◌, ◌≤◌, ◌+◌, ◌*◌, length, IfOk};
-ghost use Rattle.pq_encodings.specs.Answers.{Gives};
+ghost use Rattle.answers.specs.Answers.{Gives};
+ghost use Rattle.pq_encodings.specs.Faults.{is_memory};
 ghost use Rattle.pq_encodings.specs.Plain as spec;
 
 use crate::fault::EncFault;
@@ -54,7 +55,7 @@ fn first_i64s(alloc: Global, bytes: &[u8], count: usize) -> Result<Vec<i64>, All
 
 /// `count` numbers of four bytes, or the place of the first that isn't whole.
 pub fn decode_i32s(alloc: Global, bytes: &[u8], count: u64) -> Result<Vec<i32>, EncFault>
-    ensures { Gives (λ v. v.items) result (spec.i32s_in bytes.now count) }
+    ensures { Gives is_memory (λ v. v.items) result (spec.i32s_in bytes.now count) }
 {
     let whole = (bytes.len() / 4) as u64;
     if whole < count {
@@ -68,7 +69,7 @@ pub fn decode_i32s(alloc: Global, bytes: &[u8], count: u64) -> Result<Vec<i32>, 
 
 /// `count` numbers of eight bytes, or the place of the first that isn't whole.
 pub fn decode_i64s(alloc: Global, bytes: &[u8], count: u64) -> Result<Vec<i64>, EncFault>
-    ensures { Gives (λ v. v.items) result (spec.i64s_in bytes.now count) }
+    ensures { Gives is_memory (λ v. v.items) result (spec.i64s_in bytes.now count) }
 {
     let whole = (bytes.len() / 8) as u64;
     if whole < count {

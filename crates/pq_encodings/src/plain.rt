@@ -1,7 +1,8 @@
 //! Plain values (Apache Parquet format, "Plain").
 
 ghost use Rattle.std.specs.Prelude.{◌≡◌, ◌++◌, List, ℕ, IfOk, Ok};
-ghost use Rattle.pq_encodings.specs.Answers.{Gives};
+ghost use Rattle.answers.specs.Answers.{Gives};
+ghost use Rattle.pq_encodings.specs.Faults.{is_memory};
 ghost use Rattle.pq_encodings.specs.Values.{AreInRange, AreShort, BeginsWith, IsReadAgain, Values, count_of, kind_of, value_bytes, values_in, values_of};
 
 use crate::bools::{bool_bytes, decode_bools};
@@ -30,7 +31,7 @@ pub enum Plain {
 
 /// The first `count` values of a kind, or the first fault.
 fn first_values(alloc: Global, kind: Physical, count: u64, bytes: &[u8]) -> Result<Plain, EncFault>
-    ensures { Gives values_of result (values_in kind count bytes.now) }
+    ensures { Gives is_memory values_of result (values_in kind count bytes.now) }
 {
     match kind {
         Physical::Boolean => Ok(Plain::Bools(decode_bools(alloc, bytes, count)?)),
@@ -53,10 +54,10 @@ pub fn decode_plain(
     // The bytes begin with what is answered, and what they begin with is answered, unless memory runs out.
     ensures held { IfOk result (λ p. BeginsWith (values_of p) bytes.now) }
     ensures only { (vs : Values) → kind_of vs ≡ kind → count_of vs ≡ count → AreShort vs → AreInRange vs → BeginsWith vs bytes.now →
-        Gives values_of result (Ok vs) }
+        Gives is_memory values_of result (Ok vs) }
 
     // Which fault it is, and its place.
-    ensures gives { Gives values_of result (values_in kind count bytes.now) }
+    ensures gives { Gives is_memory values_of result (values_in kind count bytes.now) }
 
     ensures kind { IfOk result (λ p. kind_of (values_of p) ≡ kind) }
     ensures count { IfOk result (λ p. count_of (values_of p) ≡ count) }

@@ -3,7 +3,8 @@
 ghost use Rattle.std.specs.Prelude.{◌≡◌, ◌≤◌, ◌<◌, ◌+◌, ◌^◌, ◌++◌, length, List, ℕ, Ok, OnOk, OnErr, IfOk};
 ghost use Rattle.std.specs.Vec.{vec_len};
 ghost use Rattle.byteorder.specs.Endian.{little_number};
-ghost use Rattle.pq_encodings.specs.Answers.{Gives};
+ghost use Rattle.answers.specs.Answers.{Gives};
+ghost use Rattle.pq_encodings.specs.Faults.{is_memory};
 ghost use Rattle.pq_encodings.specs.Grammar.{HoldsRuns};
 ghost use Rattle.pq_encodings.specs.Runs.{Appends, Reads, body_of, levels_in, packed_run, repeated_run, runs_from};
 ghost use Rattle.pq_encodings.specs.Runs as spec;
@@ -174,7 +175,7 @@ pub fn read_runs(
 /// The first `count` numbers of the runs at the front, or the first fault.
 fn first_numbers(alloc: Global, bytes: &[u8], width: u32, count: u64) -> Result<Vec<u32>, EncFault>
     requires { width ≤ 32 }
-    ensures gives { Gives (λ v. v.items) result (levels_in width bytes.now count) }
+    ensures gives { Gives is_memory (λ v. v.items) result (levels_in width bytes.now count) }
     ensures count { IfOk result (λ v. vec_len v ≡ count) }
 {
     let mut out = Vec::new(alloc);
@@ -200,10 +201,10 @@ pub fn decode_levels(
     // What is answered is held, and what is held is answered, unless memory runs out: so the bytes hold one list at
     // most, and a fault says that they hold none.
     ensures held { IfOk result (λ v. HoldsRuns width count bytes.now v.items) }
-    ensures only { (xs : List ℕ) → HoldsRuns width count bytes.now xs → Gives (λ v. v.items) result (Ok xs) }
+    ensures only { (xs : List ℕ) → HoldsRuns width count bytes.now xs → Gives is_memory (λ v. v.items) result (Ok xs) }
 
     // Which fault it is, and its place.
-    ensures gives { Gives (λ v. v.items) result (levels_in width bytes.now count) }
+    ensures gives { Gives is_memory (λ v. v.items) result (levels_in width bytes.now count) }
     ensures count { IfOk result (λ v. vec_len v ≡ count) }
 {
     first_numbers(alloc, bytes, u32::from(width), count)

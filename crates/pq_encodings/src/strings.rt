@@ -1,7 +1,8 @@
 //! Plain BYTE_ARRAY: each byte string behind its length, four bytes, the low byte first.
 
 ghost use Rattle.std.specs.Prelude.{◌≡◌, ◌≤◌, ◌+◌, ◌<◌, ◌++◌, length, map, All, IfOk, OnOk, List, ℕ};
-ghost use Rattle.pq_encodings.specs.Answers.{Gives};
+ghost use Rattle.answers.specs.Answers.{Gives};
+ghost use Rattle.pq_encodings.specs.Faults.{is_memory};
 ghost use Rattle.pq_encodings.specs.Plain as spec;
 
 use crate::fault::EncFault;
@@ -10,7 +11,7 @@ use std::alloc::{AllocError, Global};
 use std::marker::Model;
 
 /// The most bytes of one byte string.
-const MOST_BYTES: u32 = 16_777_216;
+pub const MAX_STRING: u32 = 16_777_216;
 
 /// A list of byte strings.
 #[derive(Debug, Drop)]
@@ -50,7 +51,7 @@ impl ByteLists {
 /// The byte string at a place, and where it ends.
 pub fn string_at(alloc: Global, bytes: &[u8], at: usize) -> Result<(Vec<u8>, usize), EncFault>
     requires { at ≤ length bytes.now }
-    ensures string { Gives (λ x. (x.0.items, x.1)) result (spec.string_at bytes.now at) }
+    ensures string { Gives is_memory (λ x. (x.0.items, x.1)) result (spec.string_at bytes.now at) }
     ensures within { IfOk result (λ x. x.1 ≤ length bytes.now) }
 {
     let (_, rest) = bytes.split_at(at);
@@ -58,7 +59,7 @@ pub fn string_at(alloc: Global, bytes: &[u8], at: usize) -> Result<(Vec<u8>, usi
         return Err(EncFault::Short { at: at as u64 });
     }
     let size = LittleEndian::read_u32(rest);
-    if size > MOST_BYTES {
+    if size > MAX_STRING {
         return Err(EncFault::LongCell {
             at: at as u64,
             length: u64::from(size),
@@ -74,7 +75,7 @@ pub fn string_at(alloc: Global, bytes: &[u8], at: usize) -> Result<(Vec<u8>, usi
 
 /// The first `count` byte strings, or the first fault.
 pub fn decode_strings(alloc: Global, bytes: &[u8], count: u64) -> Result<Vec<Vec<u8>>, EncFault>
-    ensures { Gives (λ v. map (λ x. x.items) v.items) result (spec.strings_at count bytes.now 0) }
+    ensures { Gives is_memory (λ v. map (λ x. x.items) v.items) result (spec.strings_at count bytes.now 0) }
 {
     let mut out = Vec::new(alloc);
     let mut at = 0;
@@ -88,7 +89,7 @@ pub fn decode_strings(alloc: Global, bytes: &[u8], count: u64) -> Result<Vec<Vec
 
 /// Appends a byte string behind its length.
 fn push_string(out: &mut Vec<u8>, string: &[u8]) -> Result<(), AllocError>
-    requires { length string.now ≤ MOST_BYTES }
+    requires { length string.now ≤ MAX_STRING }
     ensures { OnOk result (out.new.items ≡ out.old.items ++ spec.string_bytes string.now) }
 {
     let mut size = [0u8; 4];
@@ -100,7 +101,7 @@ fn push_string(out: &mut Vec<u8>, string: &[u8]) -> Result<(), AllocError>
 
 /// The byte strings, each behind its length.
 pub fn string_bytes(alloc: Global, strings: &[Vec<u8>]) -> Result<Vec<u8>, AllocError>
-    requires { All (λ x. length x.items ≤ MOST_BYTES) strings.now }
+    requires { All (λ x. length x.items ≤ MAX_STRING) strings.now }
     ensures { IfOk result (λ v. v.items ≡ spec.strings_bytes (map (λ x. x.items) strings.now)) }
 {
     let mut out = Vec::new(alloc);

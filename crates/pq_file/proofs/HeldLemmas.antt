@@ -16,7 +16,8 @@ use Rattle.lake_types.specs.declared.value.Value.TheVariants as value
 use Rattle.lake_types.specs.Calendar.{is_day}
 use Rattle.lake_types.specs.Fits.{fits, reach, reaches}
 use Rattle.lake_types.specs.Weights.{weight}
-use Rattle.pq_encodings.specs.Plain.{most_bytes, string_bytes}
+use Rattle.pq_encodings.specs.declared.strings.TheConstants.{MAX_STRING}
+use Rattle.pq_encodings.specs.Plain.{string_bytes}
 use Rattle.pq_encodings.specs.Values.{AreInRange, AreShort, count_of, kind_of, plain_size, value_bytes}
 use Rattle.pq_pages.specs.Writing.{AreTexts}
 use Rattle.pq_file.specs.Cells.{blob_of, bool_of, cells_of, long_of, number_of, spread, string_of}
@@ -68,7 +69,7 @@ all_kept : {A : Type 0} (P : A → Type 0) (Q : Value → Type 0) (g : Value →
 all_kept P Q g each [] h = All-nil P
 all_kept P Q g each (v ∷ vs) h = one_kept P (g v) (filter_map g vs) (each v (All-head Q v vs h)) (all_kept P Q g each vs (All-tail Q v vs h))
 
-short_string : (v : Value) → IsShort v → IfSome (string_in v) (λ x. length x ≤ most_bytes)
+short_string : (v : Value) → IsShort v → IfSome (string_in v) (λ x. length x ≤ MAX_STRING)
 short_string value.Null h = tt
 short_string (value.Bool b) h = tt
 short_string (value.Int n) h = tt
@@ -82,8 +83,8 @@ values_short ty.Int8 cells h = tt
 values_short ty.Int16 cells h = tt
 values_short ty.Int32 cells h = tt
 values_short ty.Int64 cells h = tt
-values_short ty.Varchar cells h = all_kept (λ (x : List ℕ). length x ≤ most_bytes) IsShort string_in short_string cells h
-values_short ty.Blob cells h = all_kept (λ (x : List ℕ). length x ≤ most_bytes) IsShort string_in short_string cells h
+values_short ty.Varchar cells h = all_kept (λ (x : List ℕ). length x ≤ MAX_STRING) IsShort string_in short_string cells h
+values_short ty.Blob cells h = all_kept (λ (x : List ℕ). length x ≤ MAX_STRING) IsShort string_in short_string cells h
 values_short ty.Date cells h = tt
 
 -- ---- Kinds

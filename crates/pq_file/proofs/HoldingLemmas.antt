@@ -3,7 +3,7 @@ use Rattle.std.proofs.Common.{◌≡◌, ℕ, zero, suc, ◌+◌, ◌-◌, ◌�
 use Rattle.std.specs.Prelude.{◌&&◌, ◌↔◌, ⊤, IfOk, filter, if◌then◌else◌}
 use Rattle.std.specs.Cmp.Lexicographic.{bytes_decides}
 use Rattle.std.specs.List.{AllZip, enumerate_from, flat_map, slice_get}
-use Rattle.std.proofs.lemmas.Bool.{le-ltb, ltb-false, ltb-true, lt-ltb}
+use Rattle.std.proofs.lemmas.Bool.{and_parts, le-ltb, ltb-false, ltb-true, lt-ltb}
 use Rattle.std.proofs.lemmas.List.{append-nil, drop-drop, drop_at, length-append, length-drop, length-take, take-append-drop, take_at}
 use Rattle.std.proofs.lemmas.List.Elements.{All-cons, All-head, All-nil, All-tail}
 use Rattle.byteorder.specs.Endian.{little_number}
@@ -24,13 +24,16 @@ use Rattle.pq_pages.specs.Pages.{Cells, chunk_of}
 use Rattle.pq_file.specs.declared.fault.FileFault.{FileFault}
 use Rattle.pq_file.specs.declared.fault.FileFault.TheVariants as fault
 use Rattle.pq_file.specs.declared.parts.Part.{Part}
-use Rattle.pq_file.specs.Answers.{Answers, of_meta, of_page, ◌then◌}
+use Rattle.answers.specs.Answers.{Answers, ◌>>=◌}
+use Rattle.pq_file.specs.Answers.{of_meta, of_page, is_memory}
 use Rattle.pq_file.specs.Cells.{cells_of}
 use Rattle.pq_file.specs.Frame.{footer_in, is_framed, is_mark, mark, stated_length}
 use Rattle.pq_file.specs.Holding.{AnswersReading, HasFooter, HoldsCells, HoldsColumn, IsReading, named, wanted_of}
-use Rattle.pq_file.specs.Reading.{GroupParts, bare, beside, cells_fit, few_rows, file_of, groups_fit, groups_in, is_among, is_wanted, longer, most_rows, part_of, parts_fit, parts_in, sheet_in, sheet_of, span_of, spec_of, with_group}
+use Rattle.lake_types.specs.declared.limits.TheConstants.{MAX_FILE_ROWS}
+use Rattle.pq_file.specs.Reading.{GroupParts, bare, beside, cells_fit, few_rows, file_of, groups_fit, groups_in, is_among, is_wanted, longer, part_of, parts_fit, parts_in, sheet_in, sheet_of, span_of, spec_of, with_group}
 use Rattle.pq_file.proofs.BackLemmas.{cells_back}
-use Rattle.pq_file.proofs.SoundLemmas.{FootersConsistent, cells_in_range, few_ok, meta_ok, ok_same, page_ok, passed, steps}
+use Rattle.answers.proofs.AnswerLemmas.{decides, ok_same, steps}
+use Rattle.pq_file.proofs.SoundLemmas.{FootersConsistent, cells_in_range, few_ok, meta_ok, page_ok, passed}
 
 -- what the laws of chunks and of footers say
 abbrev pub ChunksHeld : Type 0
@@ -49,10 +52,6 @@ let_in : {A : Type 0} (b : Bool) (e : FileFault) (x y : A) → (if b then Err e 
 let_in true e x y h = cc
 let_in false e x y h = (refl, ok_same x y h)
 
-both : (a b : Bool) → (a && b) ≡ true → (a ≡ true) × (b ≡ true)
-both true b h = (refl, h)
-both false b h = cc
-
 -- what stands from one place on, cut at a later place
 cut : (xs : List ℕ) (i n j : ℕ) → i + n ≡ j → drop i xs ≡ take n (drop i xs) ++ drop j xs
 cut xs i n j is = sym (take-append-drop n (drop i xs)) ∙ ap (λ (ys : List ℕ). take n (drop i xs) ++ ys) (drop-drop n i xs ∙ ap (λ (k : ℕ). drop k xs) is)
@@ -66,8 +65,8 @@ footer_held bytes footer h =
     let s : ℕ = stated_length bytes in
     let found : List ℕ = take s (drop (n - 8 - s) bytes) in
     let framed = passed (is_framed bytes) (if nat_lt (n - 12) s then Err (fault.Footer s) else Ok found) fault.Magic footer h in
-    let marks = both (nat_lt 11 n && is_mark (take 4 bytes)) (is_mark (drop (n - 4) bytes)) framed.0 in
-    let begun = both (nat_lt 11 n) (is_mark (take 4 bytes)) marks.0 in
+    let marks = and_parts (nat_lt 11 n && is_mark (take 4 bytes)) (is_mark (drop (n - 4) bytes)) framed.0 in
+    let begun = and_parts (nat_lt 11 n) (is_mark (take 4 bytes)) marks.0 in
     let first : take 4 bytes ≡ mark = (bytes_decides (take 4 bytes) mark).0 begun.1 in
     let last : drop (n - 4) bytes ≡ mark = (bytes_decides (drop (n - 4) bytes) mark).0 marks.1 in
     let inside = let_in (nat_lt (n - 12) s) (fault.Footer s) found footer framed.1 in
@@ -223,11 +222,11 @@ parts_held_step : (b : Bool) (bytes : List ℕ) (row : ℕ) (group : MetaGroup) 
     (parts : List Part) (u : ⊤)
     → ((part : Part) (v : ⊤) → one ≡ Ok part → cells_fit part.place part.ty row part.cells ≡ Ok v → IsHeld bytes group x part)
     → ((ps : List Part) (v : ⊤) → others ≡ Ok ps → parts_fit row ps ≡ Ok v → AllZip (IsHeld bytes group) xs ps)
-    → (if b then (one then λ part. others then λ ps. Ok (part ∷ ps)) else others) ≡ Ok parts → parts_fit row parts ≡ Ok u
+    → (if b then (one >>= λ part. others >>= λ ps. Ok (part ∷ ps)) else others) ≡ Ok parts → parts_fit row parts ≡ Ok u
     → AllZip (IsHeld bytes group) (cond b (x ∷ xs) xs) parts
 parts_held_step false bytes row group x xs one others parts u first rest h range = rest parts u h range
 parts_held_step true bytes row group x xs one others parts u first rest h range =
-    let part = steps one (λ part. others then λ ps. Ok (part ∷ ps)) parts h in
+    let part = steps one (λ part. others >>= λ ps. Ok (part ∷ ps)) parts h in
     let more = steps others (λ ps. Ok (part.value ∷ ps)) parts part.later in
     let same : part.value ∷ more.value ≡ parts = ok_same (part.value ∷ more.value) parts more.later in
     let good = steps (cells_fit part.value.place part.value.ty row part.value.cells) (λ v. parts_fit row more.value) u (rw (← same) at range) in
@@ -260,7 +259,7 @@ record FoundParts (row : ℕ) (read : Result (List Part) FileFault) : Type 0 whe
 
 parts_found_step : (b : Bool) (bytes : List ℕ) (row : ℕ) (group : MetaGroup) (x : ℕ × MetaColumn) (xs : List (ℕ × MetaColumn)) (one : Result Part FileFault) (others : Result (List Part) FileFault)
     → (HoldsSome bytes group x → FoundPart row one) → (All (HoldsSome bytes group) xs → FoundParts row others) → All (HoldsSome bytes group) (cond b (x ∷ xs) xs)
-    → FoundParts row (if b then (one then λ part. others then λ ps. Ok (part ∷ ps)) else others)
+    → FoundParts row (if b then (one >>= λ part. others >>= λ ps. Ok (part ∷ ps)) else others)
 parts_found_step false bytes row group x xs one others first rest some = rest some
 parts_found_step true bytes row group x xs one others first rest some =
     let part = first (All-head (HoldsSome bytes group) x xs some) in
@@ -445,7 +444,7 @@ file_found laws fields bytes sheet is =
     let m : FileMeta = is.meta in
     let says : footer_of is.footer ≡ Ok m = (laws.footers is.footer m).1 is.says in
     let fit = laws.consistent is.footer m says in
-    let few : nat_lt most_rows m.num_rows ≡ false = le-ltb _ _ is.few_rows in
+    let few : nat_lt MAX_FILE_ROWS m.num_rows ≡ false = le-ltb _ _ is.few_rows in
     let found = groups_found laws.chunks bytes fields m.columns 0 0 m.groups fit.groups (columns_pieces bytes m.groups (wanted_of fields m.columns) sheet.columns is.columns) in
     let bares : List SheetColumn = map bare (filter (is_wanted fields) m.columns) in
     let held = groups_held laws.chunks bytes fields m.columns 0 0 m.groups [] m.groups found.groups bares tt refl fit.groups found.gives found.fit (bare_held bytes fields 0 m.columns) in
@@ -457,17 +456,9 @@ pub held_both : Laws → (fields : Option (List ℕ)) (bytes : List ℕ) (sheet 
 held_both laws fields bytes sheet = (file_held laws fields bytes sheet, file_found laws fields bytes sheet)
 
 -- what is answered is the one sheet that is held, or a fault where none is
-pub answer_held : (fields : Option (List ℕ)) (bytes : List ℕ) (answer read : Result Sheet FileFault) → ((sheet : Sheet) → (read ≡ Ok sheet) ↔ IsReading fields bytes sheet) → Answers answer read
+pub answer_held : (fields : Option (List ℕ)) (bytes : List ℕ) (answer read : Result Sheet FileFault) → ((sheet : Sheet) → (read ≡ Ok sheet) ↔ IsReading fields bytes sheet) → Answers is_memory answer read
     → AnswersReading fields bytes answer
-answer_held fields bytes (Ok sheet) read law h = record { reading = (law sheet).0 h; only = λ other is. ok_same other sheet (sym ((law other).1 is) ∙ h) }
-answer_held fields bytes (Err fault.Memory) read law h = tt
-answer_held fields bytes (Err fault.Magic) read law h = λ sheet is. let never = (law sheet).1 is in cc
-answer_held fields bytes (Err (fault.Footer size)) read law h = λ sheet is. let never = (law sheet).1 is in cc
-answer_held fields bytes (Err (fault.Meta e)) read law h = λ sheet is. let never = (law sheet).1 is in cc
-answer_held fields bytes (Err (fault.TooManyRows rows)) read law h = λ sheet is. let never = (law sheet).1 is in cc
-answer_held fields bytes (Err (fault.Chunk group column e)) read law h = λ sheet is. let never = (law sheet).1 is in cc
-answer_held fields bytes (Err (fault.Span group column)) read law h = λ sheet is. let never = (law sheet).1 is in cc
-answer_held fields bytes (Err (fault.BadCell column row)) read law h = λ sheet is. let never = (law sheet).1 is in cc
+answer_held fields bytes answer read law h = decides is_memory (λ sheet. sheet) (IsReading fields bytes) answer read law h
 
 -- ---- The columns that are named
 

@@ -6,15 +6,16 @@ use Rattle.pq_meta.specs.declared.meta.MetaColumn.{MetaColumn}
 use Rattle.pq_meta.specs.declared.meta.MetaChunk.{MetaChunk}
 use Rattle.pq_file.specs.declared.fault.FileFault.{FileFault}
 use Rattle.pq_file.specs.declared.parts.Part.{Part}
-use Rattle.pq_file.specs.Answers.{◌then◌, Fails}
+use Rattle.answers.specs.Answers.{◌>>=◌, Fails}
+use Rattle.pq_file.specs.Answers.{is_memory}
 use Rattle.pq_file.specs.Reading.{is_wanted, part_of, parts_in}
-use Rattle.pq_file.proofs.AnswerLemmas.{handed_on}
+use Rattle.answers.proofs.AnswerLemmas.{handed_on}
 
 -- what is there already, before what is still read
 abbrev pub with_front : {B : Type 0} → List B → Result (List B) FileFault → Result (List B) FileFault
-with_front front read = read then λ bs. Ok (front ++ bs)
+with_front front read = read >>= λ bs. Ok (front ++ bs)
 
-regroup : {B : Type 0} (front : List B) (b : B) (read : Result (List B) FileFault) → with_front front (read then λ bs. Ok (b ∷ bs)) ≡ with_front (front ++ b ∷ []) read
+regroup : {B : Type 0} (front : List B) (b : B) (read : Result (List B) FileFault) → with_front front (read >>= λ bs. Ok (b ∷ bs)) ≡ with_front (front ++ b ∷ []) read
 regroup front b (Ok bs) = ap (λ x. Ok x) (simp append_assoc)
 regroup front b (Err e) = refl
 
@@ -58,11 +59,11 @@ parts_pass bytes fields group i columns chunks column front total lt lt' is want
 pub parts_fail : (bytes : List ℕ) (fields : Option (List ℕ)) (group i : ℕ) (columns : List MetaColumn) (chunks : List MetaChunk) (column : MetaColumn) (chunk : MetaChunk)
     (front : List Part) (e : FileFault) (total : Result (List Part) FileFault)
     → i < length columns → i < length chunks → column ≡ get_or columns i column → chunk ≡ get_or chunks i chunk
-    → is_wanted fields column ≡ true → Fails e (part_of bytes group i column chunk)
-    → with_front front (parts_from bytes fields group i columns chunks) ≡ total → Fails e total
+    → is_wanted fields column ≡ true → Fails is_memory e (part_of bytes group i column chunk)
+    → with_front front (parts_from bytes fields group i columns chunks) ≡ total → Fails is_memory e total
 parts_fail bytes fields group i columns chunks column chunk front e total lt lt' is is' wanted read so_far =
     rw (← so_far) (rw (next_of columns i column lt is, next_of chunks i chunk lt' is', wanted)
-    (handed_on e _ _ (handed_on e (part_of bytes group i column chunk) (λ part. parts_from bytes fields group (i + 1) columns chunks then λ parts. Ok (part ∷ parts)) read)))
+    (handed_on is_memory e _ _ (handed_on is_memory e (part_of bytes group i column chunk) (λ part. parts_from bytes fields group (i + 1) columns chunks >>= λ parts. Ok (part ∷ parts)) read)))
 
 pub parts_end : (bytes : List ℕ) (fields : Option (List ℕ)) (group : ℕ) (columns : List MetaColumn) (chunks : List MetaChunk) (front : List Part) (total : Result (List Part) FileFault)
     → with_front front (parts_from bytes fields group (length columns) columns chunks) ≡ total → total ≡ Ok front

@@ -14,7 +14,7 @@ use Rattle.lake_types.specs.declared.value.ColType.TheVariants as ty
 use Rattle.lake_types.specs.declared.value.Value.{Value}
 use Rattle.lake_types.specs.declared.value.Value.TheVariants as value
 use Rattle.lake_types.specs.Fits.{fits}
-use Rattle.pq_encodings.specs.Plain.{most_bytes}
+use Rattle.pq_encodings.specs.declared.strings.TheConstants.{MAX_STRING}
 use Rattle.pq_encodings.specs.Values.{AreShort, Values, bools, i32s, i64s, strings, count_of}
 use Rattle.pq_meta.specs.declared.fault.MetaFault.{MetaFault}
 use Rattle.pq_meta.specs.declared.meta.FileMeta.{FileMeta}
@@ -32,10 +32,13 @@ use Rattle.pq_pages.specs.Writing.{AreTexts}
 use Rattle.pq_file.specs.declared.fault.FileFault.{FileFault}
 use Rattle.pq_file.specs.declared.fault.FileFault.TheVariants as fault
 use Rattle.pq_file.specs.declared.parts.Part.{Part}
-use Rattle.pq_file.specs.Answers.{Answers, of_meta, of_page, ◌then◌}
+use Rattle.answers.proofs.AnswerLemmas.{steps, ok_same}
+use Rattle.answers.specs.Answers.{Answers, ◌>>=◌}
+use Rattle.pq_file.specs.Answers.{of_meta, of_page, is_memory}
 use Rattle.pq_file.specs.Cells.{bool_of, cells_of, is_text, long_of, number_of, spread, string_of, typed}
 use Rattle.pq_file.specs.Frame.{footer_in}
-use Rattle.pq_file.specs.Reading.{GroupParts, bare, beside, cells_fit, few_rows, file_of, groups_fit, groups_in, is_wanted, longer, most_rows, part_of, parts_fit, parts_in, sheet_in, sheet_of, span_of, spec_of, stated_rows, with_group}
+use Rattle.lake_types.specs.declared.limits.TheConstants.{MAX_FILE_ROWS}
+use Rattle.pq_file.specs.Reading.{GroupParts, bare, beside, cells_fit, few_rows, file_of, groups_fit, groups_in, is_wanted, longer, part_of, parts_fit, parts_in, sheet_in, sheet_of, span_of, spec_of, stated_rows, with_group}
 use Rattle.pq_file.specs.Sheets.{IsSound, IsSoundColumn}
 use Rattle.pq_file.specs.Writable.{HasCellTexts, HasName, HasText, IsCell, IsShort, OtherField}
 
@@ -47,19 +50,6 @@ abbrev pub FootersConsistent : Type 0
 FootersConsistent = (bytes : List ℕ) (meta : FileMeta) → footer_of bytes ≡ Ok meta → IsConsistent meta
 
 -- ---- Readings that have a value
-
--- each of two readings had one
-pub record Steps {A B : Type 0} (first : Result A FileFault) (next : A → Result B FileFault) (made : B) : Type 0 where
-  pub value : A
-  pub gives : first ≡ Ok value
-  pub later : next value ≡ Ok made
-
-pub steps : {A B : Type 0} (first : Result A FileFault) (next : A → Result B FileFault) (made : B) → (first then next) ≡ Ok made → Steps first next made
-steps (Ok x) next made h = record { value = x; gives = refl; later = h }
-steps (Err e) next made h = cc
-
-pub ok_same : {A : Type 0} (x y : A) → let r : A → Result A FileFault = λ a. Ok a in r x ≡ r y → x ≡ y
-ok_same x y h = cc
 
 pub page_ok : {A : Type 0} (group place : ℕ) (read : Result A PageFault) (x : A) → of_page group place read ≡ Ok x → read ≡ Ok x
 page_ok group place (Ok y) x h = ap (λ a. Ok a) (ok_same y x h)
@@ -96,7 +86,7 @@ number_value ty.Varchar n = (λ e. cc, tt, tt)
 number_value ty.Blob n = (λ e. cc, tt, tt)
 number_value ty.Date n = (λ e. cc, tt, tt)
 
-string_value : (t : ColType) (x : List ℕ) → (is_text t ≡ true → IsUtf8 x) → length x ≤ most_bytes → IsValue (string_of t x)
+string_value : (t : ColType) (x : List ℕ) → (is_text t ≡ true → IsUtf8 x) → length x ≤ MAX_STRING → IsValue (string_of t x)
 string_value ty.Bool x text short = (λ e. cc, short, tt)
 string_value ty.Int8 x text short = (λ e. cc, short, tt)
 string_value ty.Int16 x text short = (λ e. cc, short, tt)
@@ -174,10 +164,10 @@ part_sound chunks bytes group place column chunk part h =
 
 parts_step : (b : Bool) (rows : ℕ) (column : MetaColumn) (columns : List MetaColumn) (one : Result Part FileFault) (others : Result (List Part) FileFault) (parts : List Part)
     → ((part : Part) → one ≡ Ok part → IsPart rows column part) → ((ps : List Part) → others ≡ Ok ps → AllZip (IsPart rows) columns ps)
-    → (if b then (one then λ part. others then λ ps. Ok (part ∷ ps)) else others) ≡ Ok parts → AllZip (IsPart rows) (cond b (column ∷ columns) columns) parts
+    → (if b then (one >>= λ part. others >>= λ ps. Ok (part ∷ ps)) else others) ≡ Ok parts → AllZip (IsPart rows) (cond b (column ∷ columns) columns) parts
 parts_step false rows column columns one others parts first rest h = rest parts h
 parts_step true rows column columns one others parts first rest h =
-    let part = steps one (λ part. others then λ ps. Ok (part ∷ ps)) parts h in
+    let part = steps one (λ part. others >>= λ ps. Ok (part ∷ ps)) parts h in
     let more = steps others (λ ps. Ok (part.value ∷ ps)) parts part.later in
     subst (λ (ps : List Part). AllZip (IsPart rows) (column ∷ columns) ps) (ok_same (part.value ∷ more.value) parts more.later)
     (first part.value part.gives, rest more.value more.gives)
@@ -354,8 +344,8 @@ all_apart rows (m ∷ ms) (c ∷ cs) grown apart =
 
 pub few_ok : (rows : ℕ) (u : ⊤) → few_rows rows ≡ Ok u → rows ≤ 4194304
 few_ok rows u h =
-    elim (cases_lt most_rows rows) [
-      | inl more ↦ absurd (refused (nat_lt most_rows rows) (fault.TooManyRows rows) u (lt-ltb most_rows rows more) h)
+    elim (cases_lt MAX_FILE_ROWS rows) [
+      | inl more ↦ absurd (refused (nat_lt MAX_FILE_ROWS rows) (fault.TooManyRows rows) u (lt-ltb MAX_FILE_ROWS rows more) h)
       | inr few ↦ few
     ]
 
@@ -391,6 +381,6 @@ file_sound chunks footers fields bytes sheet h =
     sheet_sound chunks bytes fields meta.value sheet (footers footer.value meta.value (meta_ok _ meta.value meta.gives)) meta.later
 
 -- what is answered is what the definition gives, if it is a sheet
-pub answer_sound : (answer read : Result Sheet FileFault) → ((sheet : Sheet) → read ≡ Ok sheet → IsSound sheet) → Answers answer read → IfOk answer IsSound
+pub answer_sound : (answer read : Result Sheet FileFault) → ((sheet : Sheet) → read ≡ Ok sheet → IsSound sheet) → Answers is_memory answer read → IfOk answer IsSound
 answer_sound (Ok sheet) read law h = law sheet h
 answer_sound (Err e) read law h = tt

@@ -1,6 +1,7 @@
 -- Where the groups of a sheet end.
 use Rattle.std.specs.Prelude.{ℕ, ◌+◌, nat_le, nat_eq, ◌||◌, if◌then◌else◌, List, [], ◌∷◌, map, get_or, Bool}
 use Rattle.std.specs.List.{range_with_len, sum_by}
+use Rattle.pq_file.specs.declared.cuts.TheConstants.{GROUP_ROWS, GROUP_WEIGHT}
 use Rattle.lake_types.specs.Weights.{weight}
 use Rattle.lake_types.specs.declared.sheet.SheetColumn.{SheetColumn}
 use Rattle.lake_types.specs.declared.value.Value.TheVariants as value
@@ -14,7 +15,7 @@ row_weights columns rows = map (row_weight columns) (range_with_len 0 rows)
 
 -- a group of so many rows and of this weight has its last row
 abbrev pub is_full : ℕ → ℕ → Bool
-is_full rows weight = nat_le 8192 rows || nat_le 67108864 weight
+is_full rows weight = nat_le GROUP_ROWS rows || nat_le GROUP_WEIGHT weight
 
 -- How many rows each group has, of rows with these weights. Before them stand `rows` rows of the weight `weight`, whose
 -- group has not ended. A group ends with the row that makes it full, or with the last row; of no rows there is none.

@@ -1,11 +1,12 @@
 -- Which sheet a file holds, said of the whole file at once, whatever a reader looks at first.
-use Rattle.std.specs.Prelude.{◌≡◌, ◌≤◌, ℕ, ◌++◌, List, length, filter, All, Option, Some, Result, Ok, Err, true}
+use Rattle.std.specs.Prelude.{◌≡◌, ◌≤◌, ℕ, ◌++◌, List, length, filter, All, Option, Some, Result, true}
 use Rattle.std.specs.List.{AllZip, enumerate_from, flat_map, slice_get}
 use Rattle.byteorder.specs.Endian.{little_number}
 use Rattle.lake_types.specs.declared.sheet.Sheet.{Sheet}
 use Rattle.lake_types.specs.declared.sheet.SheetColumn.{SheetColumn}
 use Rattle.lake_types.specs.declared.value.Value.{Value}
 use Rattle.lake_types.specs.Fits.{fits}
+use Rattle.answers.specs.Answers.{Decides}
 use Rattle.pq_meta.specs.declared.meta.FileMeta.{FileMeta}
 use Rattle.pq_meta.specs.declared.meta.MetaChunk.{MetaChunk}
 use Rattle.pq_meta.specs.declared.meta.MetaColumn.{MetaColumn}
@@ -13,11 +14,12 @@ use Rattle.pq_meta.specs.declared.meta.MetaGroup.{MetaGroup}
 use Rattle.pq_meta.specs.Holding.{IsFooter}
 use Rattle.pq_pages.specs.Holding.{IsChunk}
 use Rattle.pq_pages.specs.Pages.{Cells}
+use Rattle.pq_file.specs.Answers.{is_memory}
 use Rattle.pq_file.specs.declared.fault.FileFault.{FileFault}
-use Rattle.pq_file.specs.declared.fault.FileFault.TheVariants as fault
 use Rattle.pq_file.specs.Cells.{cells_of}
 use Rattle.pq_file.specs.Frame.{mark}
-use Rattle.pq_file.specs.Reading.{bare, is_among, is_wanted, most_rows, spec_of}
+use Rattle.lake_types.specs.declared.limits.TheConstants.{MAX_FILE_ROWS}
+use Rattle.pq_file.specs.Reading.{bare, is_among, is_wanted, spec_of}
 
 -- a file: the mark, any bytes, the footer, four bytes that state the footer's length, the mark
 pub record HasFooter (bytes footer : List ℕ) : Type 0 where
@@ -59,24 +61,14 @@ pub record IsReading (fields : Option (List ℕ)) (bytes : List ℕ) (sheet : Sh
   pub frame : HasFooter bytes footer
   pub meta : FileMeta
   pub says : IsFooter footer meta
-  pub few_rows : meta.num_rows ≤ most_rows
+  pub few_rows : meta.num_rows ≤ MAX_FILE_ROWS
   pub rows : sheet.rows ≡ meta.num_rows
   pub columns : AllZip (HoldsColumn bytes meta.groups) (wanted_of fields meta.columns) sheet.columns
 
--- it holds this sheet and no other
-pub record IsOnlyReading (fields : Option (List ℕ)) (bytes : List ℕ) (sheet : Sheet) : Type 0 where
-  pub reading : IsReading fields bytes sheet
-  pub only : (other : Sheet) → IsReading fields bytes other → other ≡ sheet
-
--- it holds none
-abbrev pub HasNoReading : Option (List ℕ) → List ℕ → Type 0
-HasNoReading fields bytes = (sheet : Sheet) → IsReading fields bytes sheet → ⊥
-
--- The answer is the one sheet that the file holds, or a fault where it holds none. Memory may run out at any file.
+-- The answer is the sheet that the file holds, and it holds no other; or a fault where it holds none. Memory may run out at
+-- any file.
 abbrev pub AnswersReading : Option (List ℕ) → List ℕ → Result Sheet FileFault → Type 0
-AnswersReading fields bytes (Ok sheet) = IsOnlyReading fields bytes sheet
-AnswersReading fields bytes (Err fault.Memory) = Unit {0}
-AnswersReading fields bytes (Err e) = HasNoReading fields bytes
+AnswersReading fields bytes answer = Decides is_memory (λ sheet. sheet) (IsReading fields bytes) answer
 
 -- the columns of a sheet that have one of these field ids, in the sheet's order
 abbrev pub named : List ℕ → Sheet → Sheet

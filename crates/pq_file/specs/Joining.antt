@@ -6,7 +6,7 @@ use Rattle.pq_meta.specs.declared.meta.MetaGroup.{MetaGroup}
 use Rattle.pq_file.specs.declared.fault.FileFault.{FileFault}
 use Rattle.pq_file.specs.declared.fault.FileFault.TheVariants as fault
 use Rattle.pq_file.specs.declared.parts.Misfit.{Misfit}
-use Rattle.pq_file.specs.Answers.{◌then◌}
+use Rattle.answers.specs.Answers.{◌>>=◌}
 use Rattle.pq_file.specs.Reading.{groups_fit, groups_in, with_group}
 
 -- what the first misfit says of the cells before and with it
@@ -18,6 +18,6 @@ verdict (Some misfit) = Err (fault.BadCell misfit.column misfit.row)
 -- what the ranges of their cells say.
 abbrev pub joined : List ℕ → Option (List ℕ) → List MetaColumn → ℕ → ℕ → Result ⊤ FileFault → List SheetColumn → List MetaGroup → Result (List SheetColumn) FileFault
 joined bytes fields metas group row found columns groups =
-    groups_in bytes fields metas group groups then λ read.
-    (found then λ u. groups_fit row read) then λ v.
+    groups_in bytes fields metas group groups >>= λ read.
+    (found >>= λ u. groups_fit row read) >>= λ v.
     Ok (fold with_group columns read)

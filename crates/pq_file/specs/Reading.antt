@@ -1,6 +1,7 @@
 -- The sheet that a file holds, or the first fault.
 use Rattle.std.specs.Prelude.{ℕ, ◌+◌, ◌==◌, nat_lt, if◌then◌else◌, List, [], ◌∷◌, ◌++◌, length, take, drop, map, fold, filter, Option, Some, None, Result, Ok, Err, Bool, true, false, ⊤}
 use Rattle.std.specs.List.{list_any}
+use Rattle.lake_types.specs.declared.limits.TheConstants.{MAX_FILE_ROWS}
 use Rattle.lake_types.specs.declared.value.ColType.{ColType}
 use Rattle.lake_types.specs.declared.value.Value.{Value}
 use Rattle.lake_types.specs.declared.sheet.Sheet.{Sheet}
@@ -16,7 +17,8 @@ use Rattle.pq_pages.specs.Pages.{chunk_of}
 use Rattle.pq_file.specs.declared.fault.FileFault.{FileFault}
 use Rattle.pq_file.specs.declared.fault.FileFault.TheVariants as fault
 use Rattle.pq_file.specs.declared.parts.Part.{Part}
-use Rattle.pq_file.specs.Answers.{◌then◌, of_meta, of_page}
+use Rattle.answers.specs.Answers.{◌>>=◌}
+use Rattle.pq_file.specs.Answers.{of_meta, of_page}
 use Rattle.pq_file.specs.Cells.{cells_of, is_text, kind_of}
 use Rattle.pq_file.specs.Frame.{footer_in}
 
@@ -44,8 +46,8 @@ span_of bytes group place chunk =
 -- the cells of the column number `place` in a group
 unfoldable pub part_of : List ℕ → ℕ → ℕ → MetaColumn → MetaChunk → Result Part FileFault
 part_of bytes group place column chunk =
-    span_of bytes group place chunk then λ span.
-    of_page group place (chunk_of (spec_of column chunk) span) then λ cells.
+    span_of bytes group place chunk >>= λ span.
+    of_page group place (chunk_of (spec_of column chunk) span) >>= λ cells.
     Ok (record { place = place; ty = column.ty; cells = cells_of column.ty cells })
 
 -- The parts of a group that are wanted, from the column number `place` on. A chunk that is not wanted is passed over.
@@ -54,7 +56,7 @@ parts_in bytes fields group place [] chunks = Ok []
 parts_in bytes fields group place (column ∷ columns) [] = Ok []
 parts_in bytes fields group place (column ∷ columns) (chunk ∷ chunks) =
     if is_wanted fields column
-    then (part_of bytes group place column chunk then λ part. parts_in bytes fields group (place + 1) columns chunks then λ parts. Ok (part ∷ parts))
+    then (part_of bytes group place column chunk >>= λ part. parts_in bytes fields group (place + 1) columns chunks >>= λ parts. Ok (part ∷ parts))
     else parts_in bytes fields group (place + 1) columns chunks
 
 -- what is read of one group
@@ -66,8 +68,8 @@ pub record GroupParts : Type 0 where
 abbrev pub groups_in : List ℕ → Option (List ℕ) → List MetaColumn → ℕ → List MetaGroup → Result (List GroupParts) FileFault
 groups_in bytes fields columns group [] = Ok []
 groups_in bytes fields columns group (g ∷ gs) =
-    parts_in bytes fields group 0 columns g.chunks then λ parts.
-    groups_in bytes fields columns (group + 1) gs then λ groups.
+    parts_in bytes fields group 0 columns g.chunks >>= λ parts.
+    groups_in bytes fields columns (group + 1) gs >>= λ groups.
     Ok (record { rows = g.rows; parts = parts } ∷ groups)
 
 -- ---- Ranges: a cell fits its column's type; cells count from the row `row` of the file
@@ -78,14 +80,14 @@ cells_fit place t row (v ∷ vs) = if fits v t then cells_fit place t (row + 1) 
 
 abbrev pub parts_fit : ℕ → List Part → Result ⊤ FileFault
 parts_fit row [] = Ok tt
-parts_fit row (part ∷ parts) = cells_fit part.place part.ty row part.cells then λ u. parts_fit row parts
+parts_fit row (part ∷ parts) = cells_fit part.place part.ty row part.cells >>= λ u. parts_fit row parts
 
 abbrev pub stated_rows : MetaGroup → ℕ
 stated_rows group = group.rows
 
 abbrev pub groups_fit : ℕ → List GroupParts → Result ⊤ FileFault
 groups_fit row [] = Ok tt
-groups_fit row (g ∷ gs) = parts_fit row g.parts then λ u. groups_fit (row + g.rows) gs
+groups_fit row (g ∷ gs) = parts_fit row g.parts >>= λ u. groups_fit (row + g.rows) gs
 
 -- ---- The sheet
 
@@ -108,22 +110,19 @@ with_group columns group = beside columns group.parts
 abbrev pub sheet_of : Option (List ℕ) → FileMeta → List GroupParts → Sheet
 sheet_of fields meta groups = record { columns = fold with_group (map bare (filter (is_wanted fields) meta.columns)) groups; rows = meta.num_rows }
 
-abbrev pub most_rows : ℕ
-most_rows = 4194304
-
 abbrev pub few_rows : ℕ → Result ⊤ FileFault
-few_rows rows = if nat_lt most_rows rows then Err (fault.TooManyRows rows) else Ok tt
+few_rows rows = if nat_lt MAX_FILE_ROWS rows then Err (fault.TooManyRows rows) else Ok tt
 
 unfoldable pub sheet_in : List ℕ → Option (List ℕ) → FileMeta → Result Sheet FileFault
 sheet_in bytes fields meta =
-    few_rows meta.num_rows then λ u.
-    groups_in bytes fields meta.columns 0 meta.groups then λ groups.
-    groups_fit 0 groups then λ v.
+    few_rows meta.num_rows >>= λ u.
+    groups_in bytes fields meta.columns 0 meta.groups >>= λ groups.
+    groups_fit 0 groups >>= λ v.
     Ok (sheet_of fields meta groups)
 
 -- The sheet of the wanted columns that a file holds, or the first fault. A chunk that is not wanted is not looked at.
 unfoldable pub file_of : Option (List ℕ) → List ℕ → Result Sheet FileFault
 file_of fields bytes =
-    footer_in bytes then λ footer.
-    of_meta (footer_of footer) then λ meta.
+    footer_in bytes >>= λ footer.
+    of_meta (footer_of footer) >>= λ meta.
     sheet_in bytes fields meta

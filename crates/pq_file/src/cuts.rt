@@ -7,10 +7,10 @@ ghost use Rattle.pq_file.specs.Writable.{HasCells};
 use lake_types::{SheetColumn, weight};
 
 /// The most rows of a group.
-const MOST_ROWS: usize = 8_192;
+const GROUP_ROWS: usize = 8_192;
 
 /// A group of this weight has its last row.
-const FULL_WEIGHT: u64 = 67_108_864;
+const GROUP_WEIGHT: u64 = 67_108_864;
 
 /// The weight of the cells of a row.
 fn row_weight(columns: &[SheetColumn], row: usize) -> u64
@@ -29,7 +29,7 @@ fn row_weight(columns: &[SheetColumn], row: usize) -> u64
 fn is_full(rows: usize, weight: u64) -> bool
     ensures { result ≡ spec.is_full rows weight }
 {
-    rows >= MOST_ROWS || weight >= FULL_WEIGHT
+    rows >= GROUP_ROWS || weight >= GROUP_WEIGHT
 }
 
 /// How many rows the group has that begins with the row `first`.

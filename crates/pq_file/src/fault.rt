@@ -16,7 +16,7 @@ pub enum FileFault {
     /// The footer is stated to be longer than the file has room for.
     #[error("a footer of {length} bytes does not fit")]
     Footer {
-        length: u32,
+        length: u64,
     },
     /// The footer.
     #[error("the footer: {0}")]

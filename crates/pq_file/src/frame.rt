@@ -1,7 +1,8 @@
 //! The two ends of a file, and the footer before the second.
 
 ghost use Rattle.std.specs.Prelude.{◌≡◌, ◌≤◌, length};
-ghost use Rattle.pq_file.specs.Answers.{Gives};
+ghost use Rattle.answers.specs.Answers.{Gives};
+ghost use Rattle.pq_file.specs.Answers.{is_memory};
 ghost use Rattle.pq_file.specs.Frame as spec;
 
 use crate::fault::FileFault;
@@ -29,15 +30,17 @@ fn is_framed(bytes: &[u8]) -> bool
 /// The bytes of the footer, which ends where its length stands.
 #[tactic(auto, unfolding(crate::specs::Frame::footer_in, crate::specs::Frame::is_framed))]
 pub fn footer_in(bytes: &[u8]) -> Result<&[u8], FileFault>
-    ensures { Gives (λ footer. footer.now) result (spec.footer_in bytes.now) }
+    ensures { Gives is_memory (λ footer. footer.now) result (spec.footer_in bytes.now) }
 {
     if !is_framed(bytes) {
         return Err(FileFault::Magic);
     }
     let end = bytes.len() - 8;
-    let length = LittleEndian::read_u32(&bytes[end..]);
-    if bytes.len() - FRAME < length as usize {
-        return Err(FileFault::Footer { length });
+    let length = LittleEndian::read_u32(&bytes[end..]) as usize;
+    if bytes.len() - FRAME < length {
+        return Err(FileFault::Footer {
+            length: length as u64,
+        });
     }
-    Ok(&bytes[end - length as usize..end])
+    Ok(&bytes[end - length..end])
 }

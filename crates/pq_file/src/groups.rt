@@ -6,7 +6,8 @@ ghost use Rattle.pq_encodings.specs.Values.{values_of};
 ghost use Rattle.pq_pages.specs.Pages as pages;
 ghost use Rattle.pq_pages.specs.Pages.{chunk_of};
 ghost use Rattle.pq_pages.specs.Writing.{AreTexts};
-ghost use Rattle.pq_file.specs.Answers.{Answers, Gives, of_page};
+ghost use Rattle.answers.specs.Answers.{Answers, Gives};
+ghost use Rattle.pq_file.specs.Answers.{of_page, is_memory};
 ghost use Rattle.pq_file.specs.Reading as spec;
 
 use crate::cells::{cells_of, is_text, kind_of};
@@ -36,7 +37,7 @@ fn span_of<'a>(
     place: u64,
     chunk: &MetaChunk,
 ) -> Result<&'a [u8], FileFault>
-    ensures { Gives (λ span. span.now) result (spec.span_of bytes.now group place chunk.now) }
+    ensures { Gives is_memory (λ span. span.now) result (spec.span_of bytes.now group place chunk.now) }
 {
     let fault = FileFault::Span {
         group,
@@ -59,7 +60,7 @@ fn raw_cells(
     place: u64,
     spec: &ChunkSpec,
 ) -> Result<RawCells, FileFault>
-    ensures exact { Gives pages.cells_of result (of_page group place (chunk_of spec.now span.now)) }
+    ensures exact { Gives is_memory pages.cells_of result (of_page group place (chunk_of spec.now span.now)) }
     ensures texts { IfOk result (λ raw. spec.now.text ≡ true → AreTexts (values_of raw.plain)) }
 {
     match read_chunk(alloc, span, spec) {
@@ -82,7 +83,7 @@ fn spec_of(column: &MetaColumn, chunk: &MetaChunk) -> ChunkSpec
 }
 
 /// The cells of the column number `place` in a group.
-#[tactic(auto, using(crate::proofs::AnswerLemmas::handed_on), unfolding(crate::specs::Reading::part_of))]
+#[tactic(auto, using(answers::proofs::AnswerLemmas::handed_on), unfolding(crate::specs::Reading::part_of))]
 fn part_of(
     alloc: Global,
     bytes: &[u8],
@@ -91,7 +92,7 @@ fn part_of(
     column: &MetaColumn,
     chunk: &MetaChunk,
 ) -> Result<Part, FileFault>
-    ensures { Answers result (spec.part_of bytes.now group place column.now chunk.now) }
+    ensures { Answers is_memory result (spec.part_of bytes.now group place column.now chunk.now) }
 {
     let span = match span_of(bytes, group, place, chunk) {
         Ok(span) => span,
@@ -122,7 +123,7 @@ pub fn parts_in(
     chunks: &[MetaChunk],
 ) -> Result<Listed<Part>, FileFault>
     requires { length chunks.now ≡ length columns.now }
-    ensures { Answers result (spec.parts_in bytes.now (option_copied fields.entry) number 0 columns.now chunks.now) }
+    ensures { Answers is_memory result (spec.parts_in bytes.now (option_copied fields.entry) number 0 columns.now chunks.now) }
 {
     let mut parts = Listed::new(alloc);
     for place in 0..columns.len() {

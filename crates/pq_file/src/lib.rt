@@ -24,8 +24,3 @@ pub use limits::is_writable;
 pub use reading::{read_columns, read_file};
 pub use sound::reads_sound;
 pub use writing::write_file;
-
-#[cfg(test)]
-mod tests;
-#[cfg(test)]
-mod written;

@@ -6,30 +6,19 @@ ghost use Rattle.lake_types.specs.Weights as weights;
 ghost use Rattle.lake_types.specs.declared.value.Value.TheVariants.{Null};
 ghost use Rattle.pq_file.specs.Writable.{HasCells, IsCell, IsColumn, IsShort, IsWritable, OtherField, column_weight};
 
+use lake_types::limits::{MAX_CELL_BYTES, MAX_FIELD, MAX_FILE_ROWS, MAX_NAME_BYTES};
 use lake_types::{ColType, Sheet, SheetColumn, Value, fits, weight};
-
-/// The most rows and the most columns of a sheet.
-const MOST_ROWS: u64 = 4_194_304;
-
-const MOST_COLUMNS: usize = 101;
-
-/// The most bytes of a text or blob, and of a column's name.
-const MOST_BYTES: usize = 16_777_216;
-
-const MOST_NAME: usize = 255;
-
-/// The greatest field id.
-const MOST_FIELD: u32 = 2_147_483_647;
+use pq_meta::limits::MAX_FILE_COLUMNS;
 
 /// The greatest weight of all cells together.
-const MOST_WEIGHT: u64 = 1_073_741_824;
+pub const MAX_SHEET_WEIGHT: u64 = 1_073_741_824;
 
 fn is_short(cell: &Value) -> bool
     ensures { IsTrue result ↔ IsShort cell.now }
 {
     match cell {
-        Value::Text(text) => text.as_str().len() <= MOST_BYTES,
-        Value::Bytes(bytes) => bytes.as_slice().len() <= MOST_BYTES,
+        Value::Text(text) => text.as_str().len() <= MAX_CELL_BYTES,
+        Value::Bytes(bytes) => bytes.as_slice().len() <= MAX_CELL_BYTES,
         _ => true,
     }
 }
@@ -53,10 +42,10 @@ fn has_no_null(cells: &[Value]) -> bool
 }
 
 fn is_field(field: Option<u32>) -> bool
-    ensures { IsTrue result ↔ IfSome field (λ id. id ≤ 2147483647) }
+    ensures { IsTrue result ↔ IfSome field (λ id. id ≤ MAX_FIELD) }
 {
     match field {
-        Some(id) => id <= MOST_FIELD,
+        Some(id) => id <= MAX_FIELD,
         None => true,
     }
 }
@@ -64,7 +53,7 @@ fn is_field(field: Option<u32>) -> bool
 fn is_column(column: &SheetColumn) -> bool
     ensures { IsTrue result ↔ IsColumn column.now }
 {
-    column.name.as_str().len() <= MOST_NAME
+    column.name.as_str().len() <= MAX_NAME_BYTES
         && is_field(column.field)
         && are_cells(column.ty, column.cells.as_slice())
         && (column.optional || has_no_null(column.cells.as_slice()))
@@ -133,9 +122,11 @@ fn total_weight(columns: &[SheetColumn]) -> u64
 
 /// Whether there are few enough rows and columns, and the cells are light enough.
 fn is_small(rows: u64, columns: &[SheetColumn]) -> bool
-    ensures { IsTrue result ↔ ((rows ≤ 4194304) × (length columns.now ≤ 101) × (sum_by column_weight columns.now ≤ 1073741824)) }
+    ensures { IsTrue result ↔ ((rows ≤ MAX_FILE_ROWS) × (length columns.now ≤ MAX_FILE_COLUMNS) × (sum_by column_weight columns.now ≤ MAX_SHEET_WEIGHT)) }
 {
-    rows <= MOST_ROWS && columns.len() <= MOST_COLUMNS && total_weight(columns) <= MOST_WEIGHT
+    rows <= MAX_FILE_ROWS
+        && columns.len() <= MAX_FILE_COLUMNS
+        && total_weight(columns) <= MAX_SHEET_WEIGHT
 }
 
 /// Whether each column can be written, and all of them together.

@@ -4,6 +4,7 @@ ghost use Rattle.std.specs.Prelude.{◌≡◌, ◌≤◌, ◌++◌, [], All, IfO
 ghost use Rattle.std.specs.List.{cons_option, filter_map, flat_map};
 ghost use Rattle.std.specs.Option.{option_copied};
 ghost use Rattle.lake_types.specs.declared.value.ColType.TheVariants.{Varchar};
+ghost use Rattle.lake_types.specs.declared.limits.TheConstants.{MAX_CELL_BYTES};
 ghost use Rattle.pq_encodings.specs.Plain.{bool_bytes, string_bytes};
 ghost use Rattle.pq_encodings.specs.Values.{value_bytes};
 ghost use Rattle.pq_file.specs.Raw as spec;
@@ -63,7 +64,7 @@ fn push_long(out: &mut Vec<u8>, number: i64) -> Result<(), NoMemory>
 
 /// Appends a byte string behind its length.
 fn push_string(out: &mut Vec<u8>, string: &[u8]) -> Result<(), NoMemory>
-    requires { length string.now ≤ 16777216 }
+    requires { length string.now ≤ MAX_CELL_BYTES }
     ensures { OnOk result (out.new.items ≡ out.old.items ++ string_bytes string.now) }
 {
     let mut size = [0u8; 4];

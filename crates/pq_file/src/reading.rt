@@ -7,7 +7,8 @@ ghost use Rattle.std.specs.Vec.Iter.{into_iter_items};
 ghost use Rattle.lake_types.specs.declared.sheet.Sheet.{Sheet};
 ghost use Rattle.lake_types.specs.declared.sheet.SheetColumn.{SheetColumn};
 ghost use Rattle.pq_meta.specs.Consistency.{FitsColumns, IsConsistent};
-ghost use Rattle.pq_file.specs.Answers.{Answers};
+ghost use Rattle.answers.specs.Answers.{Answers};
+ghost use Rattle.pq_file.specs.Answers.{is_memory};
 ghost use Rattle.pq_file.specs.Holding.{AnswersReading, IsReading, named};
 ghost use Rattle.pq_file.specs.Joining as joining;
 ghost use Rattle.pq_file.specs.Reading as spec;
@@ -20,13 +21,11 @@ use crate::holding::{reads_named, reads_what_is_held};
 use crate::parts::{Misfit, Part};
 use crate::ranges::misfit_in;
 use crate::sound::reads_sound;
+use lake_types::limits::MAX_FILE_ROWS;
 use lake_types::{Copied, Listed, NoMemory, Sheet, SheetColumn, SheetColumns, ValueList};
 use pq_meta::{FileMeta, MetaColumn, MetaGroup, read_meta};
 use std::alloc::Global;
 use std::vec::IntoIter;
-
-/// The most rows of a file that is read.
-const MOST_ROWS: u64 = 4_194_304;
 
 /// A column of the sheet, without cells.
 fn bare(alloc: Global, column: &MetaColumn) -> Result<SheetColumn, NoMemory>
@@ -131,7 +130,7 @@ fn joined(
 ) -> Result<SheetColumns, FileFault>
     requires fit { All (FitsColumns (length metas.now)) groups.now }
     requires few { sum_by spec.stated_rows groups.now < 2 ^ 63 }
-    ensures { Answers result (joining.joined bytes.now (option_copied fields.entry) metas.now 0 0 (joining.verdict None) bare groups.now) }
+    ensures { Answers is_memory result (joining.joined bytes.now (option_copied fields.entry) metas.now 0 0 (joining.verdict None) bare groups.now) }
 {
     let mut columns = bare;
     let mut misfit = None;
@@ -154,9 +153,9 @@ fn joined(
 
 fn few_rows(rows: u64) -> Result<(), FileFault>
     ensures exact { result ≡ spec.few_rows rows }
-    ensures few { IfOk result (λ u. rows ≤ 4194304) }
+    ensures few { IfOk result (λ u. rows ≤ MAX_FILE_ROWS) }
 {
-    if rows > MOST_ROWS {
+    if rows > MAX_FILE_ROWS {
         Err(FileFault::TooManyRows { rows })
     } else {
         Ok(())
@@ -164,7 +163,7 @@ fn few_rows(rows: u64) -> Result<(), FileFault>
 }
 
 /// What a footer's chunks hold, in the order of faults.
-#[tactic(auto, using(crate::proofs::AnswerLemmas::handed_on, crate::proofs::JoinLemmas::sheets), unfolding(crate::specs::Reading::sheet_in))]
+#[tactic(auto, using(answers::proofs::AnswerLemmas::handed_on, crate::proofs::JoinLemmas::sheets), unfolding(crate::specs::Reading::sheet_in))]
 fn sheet_in(
     alloc: Global,
     bytes: &[u8],
@@ -172,7 +171,7 @@ fn sheet_in(
     meta: &FileMeta,
 ) -> Result<Sheet, FileFault>
     requires { IsConsistent meta.now }
-    ensures { Answers result (spec.sheet_in bytes.now (option_copied fields.entry) meta.now) }
+    ensures { Answers is_memory result (spec.sheet_in bytes.now (option_copied fields.entry) meta.now) }
 {
     match few_rows(meta.num_rows) {
         Ok(()) => {}
@@ -191,9 +190,9 @@ fn sheet_in(
     }
 }
 
-#[tactic(auto, using(crate::proofs::AnswerLemmas::handed_on, crate::proofs::AnswerLemmas::meta_fails), unfolding(crate::specs::Reading::file_of))]
+#[tactic(auto, using(answers::proofs::AnswerLemmas::handed_on, crate::proofs::AnswerLemmas::meta_fails), unfolding(crate::specs::Reading::file_of))]
 fn file_of(alloc: Global, fields: Option<&[u32]>, bytes: &[u8]) -> Result<Sheet, FileFault>
-    ensures { Answers result (spec.file_of (option_copied fields.entry) bytes.now) }
+    ensures { Answers is_memory result (spec.file_of (option_copied fields.entry) bytes.now) }
 {
     let footer = match footer_in(bytes) {
         Ok(footer) => footer,
@@ -217,7 +216,7 @@ pub fn read_file(alloc: Global, bytes: &[u8]) -> Result<Sheet, FileFault>
     ensures holds { AnswersReading None bytes.now result }
 
     // Else the first fault, and that alone.
-    ensures exact { Answers result (spec.file_of None bytes.now) }
+    ensures exact { Answers is_memory result (spec.file_of None bytes.now) }
 
     // Each column has a cell for each row, of its type, and NULL only where it is optional; field ids differ.
     ensures sound { IfOk result IsSound }
@@ -240,7 +239,7 @@ pub fn read_columns(alloc: Global, bytes: &[u8], fields: &[u32]) -> Result<Sheet
     ensures named { IfOk result (λ sheet. (whole : Sheet) → IsReading None bytes.now whole → sheet ≡ named fields.now whole) }
 
     // Else the first fault, and that alone.
-    ensures exact { Answers result (spec.file_of (Some fields.now) bytes.now) }
+    ensures exact { Answers is_memory result (spec.file_of (Some fields.now) bytes.now) }
 
     // It is sound, as a whole one is.
     ensures sound { IfOk result IsSound }

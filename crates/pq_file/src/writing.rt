@@ -2,6 +2,8 @@
 
 ghost use Rattle.std.specs.Prelude.{◌≡◌, ◌≤◌, ◌<◌, ◌+◌, ◌++◌, ◌^◌, None, All, IfOk, OnOk, length, map};
 ghost use Rattle.std.specs.List.{sum_by};
+ghost use Rattle.lake_types.specs.declared.limits.TheConstants.{MAX_FILE_ROWS};
+ghost use Rattle.pq_file.specs.declared.limits.TheConstants.{MAX_SHEET_WEIGHT};
 ghost use Rattle.pq_file.specs.Canonical as spec;
 ghost use Rattle.pq_file.specs.Canonical.{HasPieceTexts};
 ghost use Rattle.pq_file.specs.Reading.{file_of};
@@ -25,9 +27,9 @@ fn push_piece(
     rows: usize,
 ) -> Result<(), NoMemory>
     requires column { IsColumn column.now }
-    requires light { column_weight column.now ≤ 1073741824 }
+    requires light { column_weight column.now ≤ MAX_SHEET_WEIGHT }
     requires within { row + rows ≤ length column.now.cells }
-    requires few { rows ≤ 4194304 }
+    requires few { rows ≤ MAX_FILE_ROWS }
     ensures bytes { OnOk result (out.new.items ≡ out.old.items ++ spec.piece_bytes row rows column.now) }
     ensures texts { OnOk result (HasPieceTexts row rows column.now) }
 {
@@ -53,9 +55,9 @@ fn push_placed(
     rows: usize,
 ) -> Result<MetaChunk, NoMemory>
     requires column { IsColumn column.now }
-    requires light { column_weight column.now ≤ 1073741824 }
+    requires light { column_weight column.now ≤ MAX_SHEET_WEIGHT }
     requires within { row + rows ≤ length column.now.cells }
-    requires few { rows ≤ 4194304 }
+    requires few { rows ≤ MAX_FILE_ROWS }
     ensures bytes { OnOk result (out.new.items ≡ out.old.items ++ spec.piece_bytes row rows column.now) }
     ensures chunk { IfOk result (λ chunk. chunk ≡ spec.chunk_at row rows (length out.old.items) column.now) }
     ensures texts { OnOk result (HasPieceTexts row rows column.now) }
@@ -80,9 +82,9 @@ fn push_group(
     rows: usize,
 ) -> Result<MetaGroup, NoMemory>
     requires columns { All IsColumn columns.now }
-    requires light { sum_by column_weight columns.now ≤ 1073741824 }
+    requires light { sum_by column_weight columns.now ≤ MAX_SHEET_WEIGHT }
     requires within { All (λ column. row + rows ≤ length column.cells) columns.now }
-    requires few { rows ≤ 4194304 }
+    requires few { rows ≤ MAX_FILE_ROWS }
     ensures bytes { OnOk result (out.new.items ≡ out.old.items ++ spec.group_bytes columns.now row rows) }
     ensures group { IfOk result (λ group. group ≡ spec.group_at row rows (length out.old.items) columns.now) }
     ensures texts { OnOk result (All (HasPieceTexts row rows) columns.now) }

@@ -4,12 +4,13 @@ use Rattle.std.proofs.Math.Seq.{drop-length}
 use Rattle.pq_meta.specs.declared.drafts.ElementDraft.{ElementDraft}
 use Rattle.pq_meta.specs.declared.fault.MetaFault.{MetaFault}
 use Rattle.pq_meta.specs.declared.meta.MetaColumn.{MetaColumn}
-use Rattle.pq_meta.specs.Checks.{◌then◌, Stops}
+use Rattle.answers.specs.Answers.{◌>>=◌, Fails}
+use Rattle.pq_meta.specs.Checks.{is_memory}
 use Rattle.pq_meta.specs.Columns.{column_of, columns_behind}
-use Rattle.pq_meta.proofs.EachLemmas.{stops_then}
+use Rattle.answers.proofs.AnswerLemmas.{handed_on}
 
 pub columns_step : (earlier : List MetaColumn) (elements : List ElementDraft) (i : ℕ) (element : ElementDraft) → i < length elements → element ≡ get_or elements i element
-    → columns_behind earlier (drop i elements) ≡ (column_of earlier element then λ column. columns_behind (earlier ++ column ∷ []) (drop (i + 1) elements))
+    → columns_behind earlier (drop i elements) ≡ (column_of earlier element >>= λ column. columns_behind (earlier ++ column ∷ []) (drop (i + 1) elements))
 columns_step earlier elements i element lt is = rw add-one (rw (drop-cons elements i element) (rw (← is) refl))
 
 pub columns_go_on : (earlier : List MetaColumn) (elements : List ElementDraft) (i : ℕ) (element : ElementDraft) (column : MetaColumn) (total : Result (List MetaColumn) MetaFault)
@@ -21,10 +22,10 @@ columns_go_on earlier elements i element column total lt is h so_far =
     sym one ∙ so_far
 
 pub columns_fail : (earlier : List MetaColumn) (elements : List ElementDraft) (i : ℕ) (element : ElementDraft) (e : MetaFault) (total : Result (List MetaColumn) MetaFault)
-    → i < length elements → element ≡ get_or elements i element → Stops e (column_of earlier element)
-    → columns_behind earlier (drop i elements) ≡ total → Stops e total
+    → i < length elements → element ≡ get_or elements i element → Fails is_memory e (column_of earlier element)
+    → columns_behind earlier (drop i elements) ≡ total → Fails is_memory e total
 columns_fail earlier elements i element e total lt is h so_far =
-    rw (← so_far) (rw (columns_step earlier elements i element lt is) (stops_then e (column_of earlier element) _ h))
+    rw (← so_far) (rw (columns_step earlier elements i element lt is) (handed_on is_memory e (column_of earlier element) _ h))
 
 pub columns_end : (earlier : List MetaColumn) (elements : List ElementDraft) (total : Result (List MetaColumn) MetaFault)
     → columns_behind earlier (drop (length elements) elements) ≡ total → total ≡ Ok earlier

@@ -1,7 +1,7 @@
 -- The parts of a footer that is read fit together.
 use Rattle.std.proofs.Common.{◌≡◌, ◌≢◌, ℕ, ℤ, pos, negsuc, ◌+◌, ◌<◌, ◌≤◌, ◌<ℤ◌, ◌⊎◌, inl, inr, suc, List, [], ◌∷◌, ◌++◌, length, Option, Some, None, Result, Ok, Err, Bool, true, false, refl, sym, ap, ◌∙◌, arith, get_or, length-append, eq-eqb, subst}
-use Rattle.std.specs.Prelude.{All, AllPairs, IfOk, nat_lt, ◌==◌, ◌||◌, if◌then◌else◌, ⊤}
-use Rattle.std.proofs.lemmas.Bool.{cases_lt, eqb-true}
+use Rattle.std.specs.Prelude.{All, AllPairs, IfOk, nat_lt, ◌==◌, if◌then◌else◌, ⊤}
+use Rattle.std.proofs.lemmas.Bool.{or_parts, cases_lt, eqb-true}
 use Rattle.std.proofs.lemmas.List.{get_or_append_left}
 use Rattle.std.proofs.Math.Seq.{get_or-append_seam}
 use Rattle.std.proofs.lemmas.List.Elements.{All-cons, All-head, All-nil, All-push, All-tail}
@@ -9,19 +9,21 @@ use Rattle.std.proofs.lemmas.Int.{ints}
 use Rattle.std.proofs.lemmas.Str.{IsUtf8-from_is_utf8}
 use Rattle.std.specs.Str.{IsUtf8, is_utf8}
 use Rattle.thrift_compact.specs.Reading.{Read}
-use Rattle.thrift_structs.specs.Structs.{struct_of}
+use Rattle.thrift_compact.specs.Structs.{struct_of}
 use Rattle.pq_meta.specs.declared.drafts.ElementDraft.{ElementDraft}
 use Rattle.pq_meta.specs.declared.drafts.FooterDraft.{FooterDraft}
 use Rattle.pq_meta.specs.declared.drafts.GroupDraft.{GroupDraft}
 use Rattle.pq_meta.specs.declared.drafts.ChunkDraft.{ChunkDraft}
 use Rattle.pq_meta.specs.declared.drafts.ChunkMetaDraft.{ChunkMetaDraft}
+use Rattle.answers.proofs.AnswerLemmas.{steps, ok_same}
 use Rattle.pq_meta.specs.declared.fault.MetaFault.{MetaFault}
 use Rattle.pq_meta.specs.declared.fault.MetaFault.TheVariants as fault
 use Rattle.pq_meta.specs.declared.meta.FileMeta.{FileMeta}
 use Rattle.pq_meta.specs.declared.meta.MetaColumn.{MetaColumn}
 use Rattle.pq_meta.specs.declared.meta.MetaGroup.{MetaGroup}
 use Rattle.pq_meta.specs.declared.meta.MetaChunk.{MetaChunk}
-use Rattle.pq_meta.specs.Checks.{◌then◌, need, counted, each, Answers}
+use Rattle.answers.specs.Answers.{◌>>=◌, Answers}
+use Rattle.pq_meta.specs.Checks.{need, counted, each, is_memory}
 use Rattle.pq_meta.specs.Columns.{meaning_of, type_of, known_type, name_of, children_of, optional_of, is_field_of, has_field, field_of, nested_of, leaf_of, column_of, columns_behind, columns_of}
 use Rattle.pq_meta.specs.Drafts.{footer_part, no_footer}
 use Rattle.pq_meta.specs.Footers.{footer_of, meta_of, read_of}
@@ -30,19 +32,6 @@ use Rattle.pq_meta.proofs.RangeLemmas.{HasShortId, HasShortIds, footer_ids}
 use Rattle.pq_meta.specs.Consistency.{OtherField, IsNamed, IsFieldId, HasFieldId, HasValues, FitsColumns, IsConsistent}
 
 -- ---- steps that gave a value
-
--- each of two steps gave one
-pub record Steps {A B : Type 0} (first : Result A MetaFault) (next : A → Result B MetaFault) (made : B) : Type 0 where
-  pub value : A
-  pub gives : first ≡ Ok value
-  pub later : next value ≡ Ok made
-
-pub steps : {A B : Type 0} (first : Result A MetaFault) (next : A → Result B MetaFault) (made : B) → (first then next) ≡ Ok made → Steps first next made
-steps (Ok x) next made h = record { value = x; gives = refl; later = h }
-steps (Err e) next made h = cc
-
-pub ok_same : {A : Type 0} (x y : A) → let r : A → Result A MetaFault = λ a. Ok a in r x ≡ r y → x ≡ y
-ok_same x y h = cc
 
 tested : (b : Bool) (e : MetaFault) (u : ⊤) → (if b then Ok tt else Err e) ≡ Ok u → b ≡ true
 tested true e u h = refl
@@ -57,7 +46,7 @@ each_all : {A B : Type 0} (P : B → Type 0) (step : A → Result B MetaFault) (
 each_all P step [] [] gives h = λ k d lt. absurd (omega arith)
 each_all P step [] (b ∷ bs) gives h = cc
 each_all {B = B} P step (item ∷ items) made gives h =
-    let one = steps (step item) (λ b. each step items then λ bs. Ok (b ∷ bs)) made h in
+    let one = steps (step item) (λ b. each step items >>= λ bs. Ok (b ∷ bs)) made h in
     let others = steps (each step items) (λ bs. Ok (one.value ∷ bs)) made one.later in
     let same : one.value ∷ others.value ≡ made = ok_same (one.value ∷ others.value) made others.later in
     let Q : List B → Type 0 = λ m. All P m in
@@ -67,7 +56,7 @@ each_length : {A B : Type 0} (step : A → Result B MetaFault) (items : List A) 
 each_length step [] [] h = refl
 each_length step [] (b ∷ bs) h = cc
 each_length {B = B} step (item ∷ items) made h =
-    let one = steps (step item) (λ b. each step items then λ bs. Ok (b ∷ bs)) made h in
+    let one = steps (step item) (λ b. each step items >>= λ bs. Ok (b ∷ bs)) made h in
     let others = steps (each step items) (λ bs. Ok (one.value ∷ bs)) made one.later in
     let same : one.value ∷ others.value ≡ made = ok_same (one.value ∷ others.value) made others.later in
     let fewer : length others.value ≡ length items = each_length step items others.value others.gives in
@@ -121,10 +110,6 @@ field_new earlier (Some (pos i)) id h =
     let P : ℕ → Type 0 = λ n. has_field earlier n ≡ false in
     subst P x.1 x.0
 
-neither : (a b : Bool) → (a || b) ≡ false → (a ≡ false) × (b ≡ false)
-neither true b h = cc
-neither false b h = (refl, h)
-
 is_field : (id : ℕ) (field : Option ℕ) → is_field_of id field ≡ false → field ≢ Some id
 is_field id field h same =
     let yes : is_field_of id field ≡ true = rw same (eq-eqb id id refl) in
@@ -133,7 +118,7 @@ is_field id field h same =
 no_field : (columns : List MetaColumn) (id : ℕ) → has_field columns id ≡ false → All (λ column. column.field ≢ Some id) columns
 no_field [] id h = λ k d lt. absurd (omega arith)
 no_field (column ∷ columns) id h =
-    let x = neither (is_field_of id column.field) (has_field columns id) h in
+    let x = or_parts (is_field_of id column.field) (has_field columns id) h in
     All-cons (λ (c : MetaColumn). c.field ≢ Some id) column columns (is_field id column.field x.0) (no_field columns id x.1)
 
 other_field : (f g : Option ℕ) → ((id : ℕ) → g ≡ Some id → f ≢ Some id) → (f ≡ None) ⊎ (f ≢ g)
@@ -286,6 +271,6 @@ footer_consistent bytes meta h =
     meta_consistent draft.value meta (footer_ids (length bytes) bytes (draft.value, read.0) read.1) draft.later
 
 -- what is answered is consistent, if it is a footer
-pub answer_consistent : (answer read : Result FileMeta MetaFault) → ((meta : FileMeta) → read ≡ Ok meta → IsConsistent meta) → Answers answer read → IfOk answer IsConsistent
+pub answer_consistent : (answer read : Result FileMeta MetaFault) → ((meta : FileMeta) → read ≡ Ok meta → IsConsistent meta) → Answers is_memory answer read → IfOk answer IsConsistent
 answer_consistent (Ok meta) read law h = law meta h
 answer_consistent (Err e) read law h = tt

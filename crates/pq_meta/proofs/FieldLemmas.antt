@@ -10,7 +10,7 @@ use Rattle.thrift_compact.specs.Spelling.{IsType}
 use Rattle.thrift_compact.specs.Laws.{ReadsBack}
 use Rattle.thrift_compact.specs.Reading.{Read, start_of, begins_list_of, signed_in, binary_in, list_header_in, field_header_in}
 use Rattle.thrift_compact.specs.Shortest.{field_spelling, list_spelling, signed_spelling, binary_spelling}
-use Rattle.thrift_structs.specs.Structs.{struct_in, struct_of, row_in, structs_of}
+use Rattle.thrift_compact.specs.Structs.{struct_in, struct_of, row_in, structs_of}
 
 -- what is written of each item reads back, as thrift_compact says
 pub record ThriftBack : Type 0 where

@@ -6,7 +6,7 @@ use Rattle.std.specs.Ordering.{int_eq}
 use Rattle.std.proofs.lemmas.Bool.{le-ltb, ltb-false}
 use Rattle.std.proofs.lemmas.Bool.Decides.{Decides-int_eq}
 use Rattle.lake_types.specs.declared.value.ColType.{ColType}
-use Rattle.thrift_structs.specs.Structs.{struct_of}
+use Rattle.thrift_compact.specs.Structs.{struct_of}
 use Rattle.pq_meta.specs.declared.codes.TheConstants.{OPTIONAL, REQUIRED}
 use Rattle.pq_meta.specs.declared.drafts.ChunkDraft.{ChunkDraft}
 use Rattle.pq_meta.specs.declared.drafts.ElementDraft.{ElementDraft}
@@ -17,14 +17,16 @@ use Rattle.pq_meta.specs.declared.meta.FileMeta.{FileMeta}
 use Rattle.pq_meta.specs.declared.meta.MetaChunk.{MetaChunk}
 use Rattle.pq_meta.specs.declared.meta.MetaColumn.{MetaColumn}
 use Rattle.pq_meta.specs.declared.meta.MetaGroup.{MetaGroup}
-use Rattle.pq_meta.specs.Checks.{Answers, ◌then◌, counted, each, need}
+use Rattle.answers.specs.Answers.{Answers, ◌>>=◌}
+use Rattle.pq_meta.specs.Checks.{counted, each, need, is_memory}
 use Rattle.pq_meta.specs.Columns.{children_of, column_of, columns_behind, columns_of, field_of, known_type, leaf_of, meaning_of, name_of, nested_of, optional_of, type_of}
 use Rattle.pq_meta.specs.Drafts.{footer_part, no_footer}
 use Rattle.pq_meta.specs.Footers.{footer_of, meta_of, read_of}
 use Rattle.pq_meta.specs.Groups.{chunk_of, described_of, first_of, group_of, rows_of}
 use Rattle.pq_meta.specs.Holding.{AnswersFooter, IsFooter, SayColumns, SaysChunk, SaysColumn, SaysGroup, SaysSchema}
 use Rattle.pq_meta.specs.Spelling.{repetition_of}
-use Rattle.pq_meta.proofs.ConsistencyLemmas.{counted_equal, needed, ok_same, read_some, steps}
+use Rattle.answers.proofs.AnswerLemmas.{decides, ok_same, steps}
+use Rattle.pq_meta.proofs.ConsistencyLemmas.{counted_equal, needed, read_some}
 
 counted_same : (want got : ℕ) → want ≡ got → counted want got ≡ Ok tt
 counted_same want got same = rw (eq-eqb want got same) refl
@@ -36,7 +38,7 @@ each_held : {A B : Type 0} (R : A → B → Type 0) (step : A → Result B MetaF
 each_held R step [] [] gives h = tt
 each_held R step [] (b ∷ bs) gives h = cc
 each_held {B = B} R step (item ∷ items) made gives h =
-    let one = steps (step item) (λ b. each step items then λ bs. Ok (b ∷ bs)) made h in
+    let one = steps (step item) (λ b. each step items >>= λ bs. Ok (b ∷ bs)) made h in
     let others = steps (each step items) (λ bs. Ok (one.value ∷ bs)) made one.later in
     let same : one.value ∷ others.value ≡ made = ok_same (one.value ∷ others.value) made others.later in
     let Q : List B → Type 0 = λ m. AllZip R (item ∷ items) m in
@@ -278,11 +280,5 @@ pub held_both : (bytes : List ℕ) (meta : FileMeta) → (footer_of bytes ≡ Ok
 held_both bytes meta = (footer_held bytes meta, footer_found bytes meta)
 
 -- what is answered is the footer that the bytes begin with, or a fault where they begin with none
-pub answer_held : (bytes : List ℕ) (answer read : Result FileMeta MetaFault) → ((meta : FileMeta) → (read ≡ Ok meta) ↔ IsFooter bytes meta) → Answers answer read → AnswersFooter bytes answer
-answer_held bytes (Ok meta) read law h = record { footer = (law meta).0 h; only = λ other is. ok_same other meta (sym ((law other).1 is) ∙ h) }
-answer_held bytes (Err fault.Memory) read law h = tt
-answer_held bytes (Err (fault.Thrift f)) read law h = λ meta is. let never = (law meta).1 is in cc
-answer_held bytes (Err (fault.MissingField id)) read law h = λ meta is. let never = (law meta).1 is in cc
-answer_held bytes (Err (fault.Nested name)) read law h = λ meta is. let never = (law meta).1 is in cc
-answer_held bytes (Err (fault.UnknownType code)) read law h = λ meta is. let never = (law meta).1 is in cc
-answer_held bytes (Err (fault.Count want got)) read law h = λ meta is. let never = (law meta).1 is in cc
+pub answer_held : (bytes : List ℕ) (answer read : Result FileMeta MetaFault) → ((meta : FileMeta) → (read ≡ Ok meta) ↔ IsFooter bytes meta) → Answers is_memory answer read → AnswersFooter bytes answer
+answer_held bytes answer read law h = decides is_memory (λ meta. meta) (IsFooter bytes) answer read law h

@@ -7,7 +7,7 @@ use Rattle.std.proofs.lemmas.Int.{ints}
 use Rattle.std.proofs.lemmas.List.{append-nil}
 use Rattle.thrift_compact.specs.Reading.{start_of}
 use Rattle.thrift_compact.specs.Shortest.{field_spelling, list_spelling, signed_spelling}
-use Rattle.thrift_structs.specs.Structs.{struct_of, row_in}
+use Rattle.thrift_compact.specs.Structs.{struct_of, row_in}
 use Rattle.pq_meta.specs.declared.drafts.ElementDraft.{ElementDraft}
 use Rattle.pq_meta.specs.declared.drafts.FooterDraft.{FooterDraft}
 use Rattle.pq_meta.specs.declared.drafts.GroupDraft.{GroupDraft}

@@ -8,7 +8,8 @@ use Rattle.lake_types.specs.declared.value.ColType.{ColType}
 use Rattle.lake_types.specs.declared.value.ColType.TheVariants as ty
 use Rattle.thrift_compact.specs.Reading.{start_of, signed_in, unsigned_in, number_in, list_header_in, after_value, after_nested, after_each, after_element, after_plain}
 use Rattle.thrift_compact.specs.Shortest.{field_spelling, list_spelling, signed_spelling, number_spelling, binary_spelling}
-use Rattle.thrift_structs.specs.Structs.{count_in, struct_of, row_in}
+use Rattle.thrift_compact.specs.Reading.{count_in}
+use Rattle.thrift_compact.specs.Structs.{struct_of, row_in}
 use Rattle.pq_meta.specs.declared.drafts.ElementDraft.{ElementDraft}
 use Rattle.pq_meta.specs.declared.drafts.GroupDraft.{GroupDraft}
 use Rattle.pq_meta.specs.declared.drafts.ChunkDraft.{ChunkDraft}

@@ -15,7 +15,8 @@ use Rattle.pq_meta.specs.declared.fault.MetaFault.TheVariants as fault
 use Rattle.pq_meta.specs.declared.meta.MetaColumn.{MetaColumn}
 use Rattle.pq_meta.specs.declared.columns.Meaning.{Meaning}
 use Rattle.pq_meta.specs.declared.columns.Meaning.TheVariants as meaning
-use Rattle.pq_meta.specs.Checks.{◌then◌, need, counted}
+use Rattle.answers.specs.Answers.{◌>>=◌}
+use Rattle.pq_meta.specs.Checks.{need, counted}
 
 -- ---- types
 
@@ -124,16 +125,16 @@ field_of earlier (Some (pos id)) = if has_field earlier id then None else Some i
 -- a column of one value
 unfoldable pub leaf_of : List MetaColumn → ElementDraft → Result MetaColumn MetaFault
 leaf_of earlier element =
-    need (pos 1) element.physical then λ physical.
-    need (pos 3) element.repetition then λ repetition.
-    need (pos 4) (name_of element.name) then λ name.
-    optional_of name repetition then λ optional.
-    known_type physical (type_of physical (meaning_of element.logical element.converted)) then λ t.
+    need (pos 1) element.physical >>= λ physical.
+    need (pos 3) element.repetition >>= λ repetition.
+    need (pos 4) (name_of element.name) >>= λ name.
+    optional_of name repetition >>= λ optional.
+    known_type physical (type_of physical (meaning_of element.logical element.converted)) >>= λ t.
     Ok (record { name = name; field = field_of earlier element.field; ty = t; optional = optional })
 
 -- an element behind the root that has children
 abbrev pub nested_of : ElementDraft → Result MetaColumn MetaFault
-nested_of element = need (pos 4) (name_of element.name) then λ name. Err (fault.Nested name)
+nested_of element = need (pos 4) (name_of element.name) >>= λ name. Err (fault.Nested name)
 
 -- the column that an element behind the root names
 unfoldable pub column_of : List MetaColumn → ElementDraft → Result MetaColumn MetaFault
@@ -142,13 +143,13 @@ column_of earlier element = if nat_lt 0 (children_of element) then nested_of ele
 -- the columns of these elements, behind earlier ones
 abbrev pub columns_behind : List MetaColumn → List ElementDraft → Result (List MetaColumn) MetaFault
 columns_behind earlier [] = Ok earlier
-columns_behind earlier (element ∷ elements) = column_of earlier element then λ column. columns_behind (earlier ++ column ∷ []) elements
+columns_behind earlier (element ∷ elements) = column_of earlier element >>= λ column. columns_behind (earlier ++ column ∷ []) elements
 
 -- The columns of a schema. Its first element is the root, and each of the others is one of the root's children.
 unfoldable pub columns_of : List ElementDraft → Result (List MetaColumn) MetaFault
 columns_of [] = Err (fault.Count 1 0)
 columns_of (root ∷ elements) =
-    need (pos 4) (name_of root.name) then λ name.
-    columns_behind [] elements then λ columns.
-    counted (children_of root) (length elements) then λ u.
+    need (pos 4) (name_of root.name) >>= λ name.
+    columns_behind [] elements >>= λ columns.
+    counted (children_of root) (length elements) >>= λ u.
     Ok columns

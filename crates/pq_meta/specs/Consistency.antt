@@ -1,6 +1,7 @@
 -- What holds of every footer that is read.
 use Rattle.std.specs.Prelude.{◌≡◌, ◌≢◌, ◌≤◌, ℕ, ◌⊎◌, length, All, AllPairs, IfSome, Option, None}
 use Rattle.std.specs.Str.{IsUtf8}
+use Rattle.lake_types.specs.declared.limits.TheConstants.{MAX_FIELD}
 use Rattle.pq_meta.specs.declared.meta.FileMeta.{FileMeta}
 use Rattle.pq_meta.specs.declared.meta.MetaColumn.{MetaColumn}
 use Rattle.pq_meta.specs.declared.meta.MetaGroup.{MetaGroup}
@@ -17,7 +18,7 @@ IsNamed column = IsUtf8 column.name
 
 -- a field id, where there is one, that a file can state
 abbrev pub IsFieldId : Option ℕ → Type 0
-IsFieldId field = IfSome field (λ id. id ≤ 2147483647)
+IsFieldId field = IfSome field (λ id. id ≤ MAX_FIELD)
 
 abbrev pub HasFieldId : MetaColumn → Type 0
 HasFieldId column = IsFieldId column.field

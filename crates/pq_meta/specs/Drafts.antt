@@ -1,8 +1,10 @@
 -- What each field of a footer's structs adds to a draft (Apache Parquet format, `parquet.thrift`).
 use Rattle.std.specs.Prelude.{ℕ, ℤ, ◌^◌, List, Some, None, Ok, true, false, ◌&&◌, if◌then◌else◌}
 use Rattle.thrift_compact.specs.declared.types.TheConstants.{TRUE, FALSE, BYTE, I32, I64, BINARY, LIST, STRUCT}
-use Rattle.thrift_compact.specs.Reading.{Read, ◌>>=◌, start_of, signed_in, byte_in, binary_in, begins_list_of, after_value}
-use Rattle.thrift_structs.specs.Structs.{is_field, unknown, count_in, struct_of, structs_of}
+use Rattle.answers.specs.Answers.{◌>>=◌}
+use Rattle.thrift_compact.specs.Reading.{Read, start_of, signed_in, byte_in, binary_in, begins_list_of, after_value}
+use Rattle.thrift_compact.specs.Reading.{count_in}
+use Rattle.thrift_compact.specs.Structs.{is_field, unknown, struct_of, structs_of}
 use Rattle.pq_meta.specs.declared.drafts.FooterDraft.{FooterDraft}
 use Rattle.pq_meta.specs.declared.drafts.ElementDraft.{ElementDraft}
 use Rattle.pq_meta.specs.declared.drafts.LogicalDraft.{LogicalDraft}

@@ -6,7 +6,8 @@ use Rattle.pq_meta.specs.declared.drafts.ChunkMetaDraft.{ChunkMetaDraft}
 use Rattle.pq_meta.specs.declared.fault.MetaFault.{MetaFault}
 use Rattle.pq_meta.specs.declared.meta.MetaGroup.{MetaGroup}
 use Rattle.pq_meta.specs.declared.meta.MetaChunk.{MetaChunk}
-use Rattle.pq_meta.specs.Checks.{◌then◌, need, counted, each}
+use Rattle.answers.specs.Answers.{◌>>=◌}
+use Rattle.pq_meta.specs.Checks.{need, counted, each}
 
 -- A chunk begins with its dictionary page where the offset of that is above 0 and below its first data page's.
 abbrev pub first_of : Option ℤ → ℕ → ℕ
@@ -16,24 +17,24 @@ first_of dictionary first = first
 -- the metadata of a chunk in a group of so many rows
 unfoldable pub described_of : ℕ → ChunkMetaDraft → Result MetaChunk MetaFault
 described_of rows meta =
-    need (pos 1) meta.physical then λ physical.
-    need (pos 4) meta.codec then λ codec.
-    need (pos 5) meta.num_values then λ values.
-    need (pos 7) meta.length then λ size.
-    need (pos 9) meta.data_page then λ first.
-    counted rows values then λ u.
+    need (pos 1) meta.physical >>= λ physical.
+    need (pos 4) meta.codec >>= λ codec.
+    need (pos 5) meta.num_values >>= λ values.
+    need (pos 7) meta.length >>= λ size.
+    need (pos 9) meta.data_page >>= λ first.
+    counted rows values >>= λ u.
     Ok (record { codec = codec; num_values = values; first = first_of meta.dictionary_page first; length = size })
 
 unfoldable pub chunk_of : ℕ → ChunkDraft → Result MetaChunk MetaFault
-chunk_of rows draft = need (pos 3) draft.meta then described_of rows
+chunk_of rows draft = need (pos 3) draft.meta >>= described_of rows
 
 -- a group of a file with so many columns: it has a chunk for each
 unfoldable pub group_of : ℕ → GroupDraft → Result MetaGroup MetaFault
 group_of columns draft =
-    need (pos 1) draft.chunks then λ chunks.
-    need (pos 3) draft.rows then λ rows.
-    counted columns (length chunks) then λ u.
-    each (chunk_of rows) chunks then λ kept.
+    need (pos 1) draft.chunks >>= λ chunks.
+    need (pos 3) draft.rows >>= λ rows.
+    counted columns (length chunks) >>= λ u.
+    each (chunk_of rows) chunks >>= λ kept.
     Ok (record { rows = rows; chunks = kept })
 
 -- how many rows the groups have together, as a number of 64 bits

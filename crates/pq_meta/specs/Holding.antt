@@ -1,15 +1,16 @@
 -- Which footer some bytes hold, said of all of it at once, whatever a reader looks at first (Apache Parquet format, "Metadata",
 -- "Nested Encoding" and "Logical Types").
-use Rattle.std.specs.Prelude.{◌≡◌, ℕ, ℤ, ◌++◌, List, [], ◌∷◌, length, Some, Result, Ok, Err}
+use Rattle.std.specs.Prelude.{◌≡◌, ℕ, ℤ, ◌++◌, List, [], ◌∷◌, length, Some, Result, Ok}
 use Rattle.std.specs.List.{AllZip}
-use Rattle.thrift_structs.specs.Structs.{struct_of}
+use Rattle.thrift_compact.specs.Structs.{struct_of}
+use Rattle.answers.specs.Answers.{Decides}
+use Rattle.pq_meta.specs.Checks.{is_memory}
 use Rattle.pq_meta.specs.declared.drafts.ChunkDraft.{ChunkDraft}
 use Rattle.pq_meta.specs.declared.drafts.ChunkMetaDraft.{ChunkMetaDraft}
 use Rattle.pq_meta.specs.declared.drafts.ElementDraft.{ElementDraft}
 use Rattle.pq_meta.specs.declared.drafts.FooterDraft.{FooterDraft}
 use Rattle.pq_meta.specs.declared.drafts.GroupDraft.{GroupDraft}
 use Rattle.pq_meta.specs.declared.fault.MetaFault.{MetaFault}
-use Rattle.pq_meta.specs.declared.fault.MetaFault.TheVariants as fault
 use Rattle.pq_meta.specs.declared.meta.FileMeta.{FileMeta}
 use Rattle.pq_meta.specs.declared.meta.MetaChunk.{MetaChunk}
 use Rattle.pq_meta.specs.declared.meta.MetaColumn.{MetaColumn}
@@ -89,17 +90,7 @@ pub record IsFooter (bytes : List ℕ) (meta : FileMeta) : Type 0 where
   pub rows : fields.num_rows ≡ Some meta.num_rows
   pub counted : meta.num_rows ≡ rows_of meta.groups
 
--- they begin with this footer and with no other
-pub record IsOnlyFooter (bytes : List ℕ) (meta : FileMeta) : Type 0 where
-  pub footer : IsFooter bytes meta
-  pub only : (other : FileMeta) → IsFooter bytes other → other ≡ meta
-
--- they begin with none
-abbrev pub IsNoFooter : List ℕ → Type 0
-IsNoFooter bytes = (meta : FileMeta) → IsFooter bytes meta → ⊥
-
--- The answer is the footer that the bytes begin with, or a fault where they begin with none. Memory may run out at any bytes.
+-- The answer is the footer that the bytes begin with, and no other is; or a fault where they begin with none. Memory may
+-- run out at any bytes.
 abbrev pub AnswersFooter : List ℕ → Result FileMeta MetaFault → Type 0
-AnswersFooter bytes (Ok meta) = IsOnlyFooter bytes meta
-AnswersFooter bytes (Err fault.Memory) = Unit {0}
-AnswersFooter bytes (Err e) = IsNoFooter bytes
+AnswersFooter bytes answer = Decides is_memory (λ meta. meta) (IsFooter bytes) answer

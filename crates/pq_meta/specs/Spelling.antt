@@ -5,6 +5,8 @@ use Rattle.lake_types.specs.declared.value.ColType.{ColType}
 use Rattle.lake_types.specs.declared.value.ColType.TheVariants as ty
 use Rattle.thrift_compact.specs.declared.types.TheConstants.{I32, I64, BINARY, LIST, STRUCT}
 use Rattle.thrift_compact.specs.Shortest.{signed_spelling, binary_spelling, field_spelling, list_spelling}
+use Rattle.lake_types.specs.declared.limits.TheConstants.{MAX_NAME_BYTES}
+use Rattle.pq_meta.specs.declared.limits.TheConstants.{MAX_FILE_COLUMNS}
 use Rattle.pq_meta.specs.declared.codes.TheConstants.{BOOLEAN, INT32, INT64, BYTE_ARRAY, REQUIRED, OPTIONAL, UTF8, DATE, INT_8, INT_16}
 use Rattle.pq_meta.specs.declared.meta.FileMeta.{FileMeta}
 use Rattle.pq_meta.specs.declared.meta.MetaColumn.{MetaColumn}
@@ -157,9 +159,9 @@ footer_bytes meta =
 
 -- ---- which footers are written
 
--- a name of at most 255 bytes, and a field id that a file can state
+-- a name that is not too long, and a field id that a file can state
 pub record IsColumn (column : MetaColumn) : Type 0 where
-  pub name : length column.name ≤ 255
+  pub name : length column.name ≤ MAX_NAME_BYTES
   pub field : HasFieldId column
 
 -- numbers that a file can state
@@ -182,7 +184,7 @@ pub record IsGroup (columns : ℕ) (group : MetaGroup) : Type 0 where
 
 -- a footer that can be written
 pub record IsWritable (meta : FileMeta) : Type 0 where
-  pub few_columns : length meta.columns ≤ 101
+  pub few_columns : length meta.columns ≤ MAX_FILE_COLUMNS
   pub columns : All IsColumn meta.columns
   pub fields : AllPairs OtherField meta.columns
   pub few_groups : length meta.groups < 2 ^ 32

@@ -1,7 +1,8 @@
 //! The columns that a schema's elements name.
 
 ghost use Rattle.std.specs.Prelude.{◌≡◌, ◌++◌, List, [], MatchOption};
-ghost use Rattle.pq_meta.specs.Checks.{Answers, Stops};
+ghost use Rattle.answers.specs.Answers.{Answers, Fails};
+ghost use Rattle.pq_meta.specs.Checks.{is_memory};
 ghost use Rattle.pq_meta.specs.Columns as spec;
 
 use crate::checks::check_count;
@@ -12,7 +13,7 @@ use crate::known::KnownColumns;
 use crate::meta::MetaColumn;
 use lake_types::{ColType, Listed, Words};
 use std::alloc::Global;
-use thrift_structs::Text;
+use thrift_compact::Text;
 
 /// What a logical or a converted type says of a column's values.
 #[derive(Clone, Copy)]
@@ -167,7 +168,7 @@ fn leaf_of(
     earlier: &KnownColumns,
     element: &ElementDraft,
 ) -> Result<MetaColumn, MetaFault>
-    ensures { Answers result (spec.leaf_of earlier.now element.now) }
+    ensures { Answers is_memory result (spec.leaf_of earlier.now element.now) }
 {
     let Some(physical) = element.physical else {
         return Err(MetaFault::MissingField { id: 1 });
@@ -198,7 +199,7 @@ fn leaf_of(
 
 /// Why an element behind the root that has children is refused.
 fn nested_fault(alloc: Global, element: &ElementDraft) -> MetaFault
-    ensures { Stops result (spec.nested_of element.now) }
+    ensures { Fails is_memory result (spec.nested_of element.now) }
 {
     let Some(name) = name_of(&element.name) else {
         return MetaFault::MissingField { id: 4 };
@@ -216,7 +217,7 @@ fn column_of(
     earlier: &KnownColumns,
     element: &ElementDraft,
 ) -> Result<MetaColumn, MetaFault>
-    ensures { Answers result (spec.column_of earlier.now element.now) }
+    ensures { Answers is_memory result (spec.column_of earlier.now element.now) }
 {
     if element.num_children.unwrap_or(0) > 0 {
         return Err(nested_fault(alloc, element));
@@ -227,7 +228,7 @@ fn column_of(
 /// The columns of these elements, which are the root's children.
 #[tactic(auto, using(crate::proofs::ColumnLemmas::columns))]
 fn columns_behind(alloc: Global, elements: &[ElementDraft]) -> Result<Listed<MetaColumn>, MetaFault>
-    ensures { Answers result (spec.columns_behind [] elements.now) }
+    ensures { Answers is_memory result (spec.columns_behind [] elements.now) }
 {
     let mut columns = KnownColumns::new(alloc);
     for element in elements {
@@ -240,9 +241,9 @@ fn columns_behind(alloc: Global, elements: &[ElementDraft]) -> Result<Listed<Met
 }
 
 /// The columns of a schema.
-#[tactic(auto, using(crate::proofs::EachLemmas::stops_then), unfolding(crate::specs::Columns::columns_of))]
+#[tactic(auto, using(answers::proofs::AnswerLemmas::handed_on), unfolding(crate::specs::Columns::columns_of))]
 pub fn columns_of(alloc: Global, schema: &[ElementDraft]) -> Result<Listed<MetaColumn>, MetaFault>
-    ensures { Answers result (spec.columns_of schema.now) }
+    ensures { Answers is_memory result (spec.columns_of schema.now) }
 {
     let [root, elements @ ..] = schema else {
         return Err(MetaFault::Count { want: 1, got: 0 });

@@ -1,6 +1,6 @@
 //! What is read of a footer's structs, field by field.
 
-use thrift_structs::{StructList, Text};
+use thrift_compact::{StructList, Text};
 
 /// What is read of the footer.
 #[derive(Drop)]

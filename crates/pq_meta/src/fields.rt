@@ -1,7 +1,7 @@
 //! Which fields of a footer's structs are used, and what each adds to a draft.
 
 ghost use Rattle.thrift_compact.specs.Reading.{byte_in};
-ghost use Rattle.thrift_structs.specs.Structs.{Parses};
+ghost use Rattle.thrift_compact.specs.Cursor.{Reads};
 
 use crate::drafts::{
     ChunkDraft, ChunkMetaDraft, ElementDraft, FooterDraft, GroupDraft, IntegerDraft, LogicalDraft,
@@ -9,15 +9,14 @@ use crate::drafts::{
 };
 use std::alloc::Global;
 use thrift_compact::types::{BINARY, BYTE, FALSE, I32, I64, LIST, STRUCT, TRUE};
-use thrift_compact::{Reader, ThriftFault};
-use thrift_structs::{
-    Parts, StructFault, pass_field, read_count, read_int, read_long, read_long_count, read_struct,
-    read_structs, read_text,
+use thrift_compact::{
+    Parts, Reader, StructFault, ThriftFault, pass_field, read_count, read_int, read_long,
+    read_long_count, read_struct, read_structs, read_text,
 };
 
 /// A signed byte.
 fn read_byte(reader: &mut Reader) -> Result<i8, ThriftFault>
-    ensures { Parses reader.old reader.new result (byte_in reader.old.at reader.old.rest) }
+    ensures { Reads reader.old reader.new result (byte_in reader.old.at reader.old.rest) }
 {
     reader.read_byte()
 }

@@ -1,7 +1,8 @@
 //! What the drafts of a footer's groups say.
 
 ghost use Rattle.std.specs.Prelude.{◌≡◌, ◌++◌, List, []};
-ghost use Rattle.pq_meta.specs.Checks.{Answers, each};
+ghost use Rattle.answers.specs.Answers.{Answers};
+ghost use Rattle.pq_meta.specs.Checks.{each, is_memory};
 ghost use Rattle.pq_meta.specs.Groups as spec;
 
 use crate::checks::check_count;
@@ -77,7 +78,7 @@ fn chunks_of(
     rows: u64,
     drafts: &[ChunkDraft],
 ) -> Result<Listed<MetaChunk>, MetaFault>
-    ensures { Answers result (each (spec.chunk_of rows) drafts.now) }
+    ensures { Answers is_memory result (each (spec.chunk_of rows) drafts.now) }
 {
     let mut chunks = Listed::new(alloc);
     for draft in drafts {
@@ -90,9 +91,9 @@ fn chunks_of(
 }
 
 /// A group of a file with so many columns.
-#[tactic(auto, using(crate::proofs::EachLemmas::stops_then), unfolding(crate::specs::Groups::group_of))]
+#[tactic(auto, using(answers::proofs::AnswerLemmas::handed_on), unfolding(crate::specs::Groups::group_of))]
 fn group_of(alloc: Global, columns: usize, draft: &GroupDraft) -> Result<MetaGroup, MetaFault>
-    ensures { Answers result (spec.group_of columns draft.now) }
+    ensures { Answers is_memory result (spec.group_of columns draft.now) }
 {
     let Some(chunks) = &draft.chunks else {
         return Err(MetaFault::MissingField { id: 1 });
@@ -120,7 +121,7 @@ pub fn groups_of(
     columns: usize,
     drafts: &[GroupDraft],
 ) -> Result<Listed<MetaGroup>, MetaFault>
-    ensures { Answers result (each (spec.group_of columns) drafts.now) }
+    ensures { Answers is_memory result (each (spec.group_of columns) drafts.now) }
 {
     let mut groups = Listed::new(alloc);
     for draft in drafts {

@@ -14,6 +14,7 @@ mod fields;
 mod groups;
 mod known;
 mod laws;
+pub mod limits;
 mod meta;
 mod reading;
 mod writing;
@@ -23,6 +24,3 @@ pub use laws::{reads_back, reads_consistent, reads_what_is_held};
 pub use meta::{FileMeta, MetaChunk, MetaColumn, MetaGroup};
 pub use reading::read_meta;
 pub use writing::write_meta;
-
-#[cfg(test)]
-mod tests;

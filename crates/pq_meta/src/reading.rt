@@ -1,7 +1,8 @@
 ghost use Rattle.std.specs.Prelude.{◌≡◌, length, IfOk};
 ghost use Rattle.thrift_compact.specs.Cursor.{Cursor};
-ghost use Rattle.thrift_structs.specs.Structs.{struct_of};
-ghost use Rattle.pq_meta.specs.Checks.{Answers};
+ghost use Rattle.thrift_compact.specs.Structs.{struct_of};
+ghost use Rattle.answers.specs.Answers.{Answers};
+ghost use Rattle.pq_meta.specs.Checks.{is_memory};
 ghost use Rattle.pq_meta.specs.Consistency.{IsConsistent};
 ghost use Rattle.pq_meta.specs.Drafts.{footer_part, no_footer};
 ghost use Rattle.pq_meta.specs.Footers as spec;
@@ -15,12 +16,12 @@ use crate::groups::{groups_of, rows_of};
 use crate::laws::{reads_consistent, reads_what_is_held};
 use crate::meta::FileMeta;
 use std::alloc::Global;
-use thrift_compact::Reader;
-use thrift_structs::{StructFault, read_struct};
+use thrift_compact::{Reader, StructFault, read_struct};
 
 /// The fields of the footer that the bytes begin with.
+#[tactic(auto, using(thrift_compact::proofs::StructLemmas::not_read))]
 fn read_draft<'a>(alloc: Global, footer: &'a [u8]) -> Result<FooterDraft<'a>, MetaFault>
-    ensures { Answers result (spec.read_of (struct_of footer_part no_footer (length footer.now) footer.now)) }
+    ensures { Answers is_memory result (spec.read_of (struct_of footer_part no_footer (length footer.now) footer.now)) }
 {
     let mut reader = Reader::new(footer);
     match read_struct(alloc, &mut reader) {
@@ -31,9 +32,9 @@ fn read_draft<'a>(alloc: Global, footer: &'a [u8]) -> Result<FooterDraft<'a>, Me
 }
 
 /// What a footer's fields say.
-#[tactic(auto, using(crate::proofs::EachLemmas::stops_then), unfolding(crate::specs::Footers::meta_of))]
+#[tactic(auto, using(answers::proofs::AnswerLemmas::handed_on), unfolding(crate::specs::Footers::meta_of))]
 fn meta_of(alloc: Global, draft: &FooterDraft) -> Result<FileMeta, MetaFault>
-    ensures { Answers result (spec.meta_of draft.now) }
+    ensures { Answers is_memory result (spec.meta_of draft.now) }
 {
     if draft.version.is_none() {
         return Err(MetaFault::MissingField { id: 1 });
@@ -66,9 +67,9 @@ fn meta_of(alloc: Global, draft: &FooterDraft) -> Result<FileMeta, MetaFault>
 }
 
 /// The footer, or the first fault.
-#[tactic(auto, using(crate::proofs::EachLemmas::stops_then), unfolding(crate::specs::Footers::footer_of))]
+#[tactic(auto, using(answers::proofs::AnswerLemmas::handed_on), unfolding(crate::specs::Footers::footer_of))]
 fn footer_in(alloc: Global, footer: &[u8]) -> Result<FileMeta, MetaFault>
-    ensures { Answers result (spec.footer_of footer.now) }
+    ensures { Answers is_memory result (spec.footer_of footer.now) }
 {
     match read_draft(alloc, footer) {
         Ok(draft) => meta_of(alloc, &draft),
@@ -85,7 +86,7 @@ fn footer_in(alloc: Global, footer: &[u8]) -> Result<FileMeta, MetaFault>
 /// state.
 pub fn read_meta(alloc: Global, footer: &[u8]) -> Result<FileMeta, MetaFault>
     // The footer, exactly where the bytes begin with one; else the first fault.
-    ensures exact { Answers result (spec.footer_of footer.now) }
+    ensures exact { Answers is_memory result (spec.footer_of footer.now) }
 
     // The footer that the bytes begin with, and no other; or a fault, where they begin with none.
     ensures holds { AnswersFooter footer.now result }

@@ -2,6 +2,8 @@
 
 ghost use Rattle.std.specs.Prelude.{◌≡◌, ◌+◌, ◌^◌, ◌<◌, ◌≤◌, ◌<ℤ◌, ◌++◌, pos, length};
 ghost use Rattle.std.specs.Prelude.{All, IfOk, OnOk};
+ghost use Rattle.lake_types.specs.declared.limits.TheConstants.{MAX_NAME_BYTES};
+ghost use Rattle.pq_meta.specs.declared.limits.TheConstants.{MAX_FILE_COLUMNS};
 ghost use Rattle.pq_meta.specs.Consistency.{IsFieldId, IsNamed};
 ghost use Rattle.pq_meta.specs.Footers.{footer_of};
 ghost use Rattle.pq_meta.specs.Spelling as spec;
@@ -140,7 +142,7 @@ fn put_column(writer: &mut Writer, column: &MetaColumn) -> Result<(), NoMemory>
 
 #[tactic(auto, using(crate::proofs::SpellingLemmas::pieces), unfolding(crate::specs::Spelling::root_bytes))]
 fn put_root(writer: &mut Writer, columns: usize) -> Result<(), NoMemory>
-    requires { columns ≤ 101 }
+    requires { columns ≤ MAX_FILE_COLUMNS }
     ensures { OnOk result (writer.new ≡ writer.old ++ spec.root_bytes columns) }
 {
     put_text(writer, 0, 4, ROOT)?;
@@ -173,7 +175,7 @@ fn put_encodings(writer: &mut Writer) -> Result<(), NoMemory>
 /// The path of a column: its name.
 #[tactic(auto, using(crate::proofs::SpellingLemmas::pieces), unfolding(crate::specs::Spelling::path_bytes))]
 fn put_path(writer: &mut Writer, name: &str) -> Result<(), NoMemory>
-    requires { length name.now ≤ 255 }
+    requires { length name.now ≤ MAX_NAME_BYTES }
     ensures { OnOk result (writer.new ≡ writer.old ++ spec.path_bytes name.now) }
 {
     put_list(writer, 2, 3, BINARY, 1)?;
@@ -251,7 +253,7 @@ fn total_of(chunks: &[MetaChunk]) -> u64
 #[tactic(auto, using(crate::proofs::SpellingLemmas::pieces), unfolding(crate::specs::Spelling::group_bytes))]
 fn put_group(writer: &mut Writer, columns: &[MetaColumn], group: &MetaGroup) -> Result<(), NoMemory>
     requires columns { All IsColumn columns.now }
-    requires few { length columns.now ≤ 101 }
+    requires few { length columns.now ≤ MAX_FILE_COLUMNS }
     requires group { IsGroup (length columns.now) group.now }
     ensures { OnOk result (writer.new ≡ writer.old ++ spec.group_bytes columns.now group.now) }
 {
@@ -270,7 +272,7 @@ fn put_groups(
     groups: &[MetaGroup],
 ) -> Result<(), NoMemory>
     requires columns { All IsColumn columns.now }
-    requires few { length columns.now ≤ 101 }
+    requires few { length columns.now ≤ MAX_FILE_COLUMNS }
     requires groups { All (IsGroup (length columns.now)) groups.now }
     ensures { OnOk result (writer.new ≡ writer.old ++ flat_map (spec.group_bytes columns.now) groups.now) }
 {
@@ -284,7 +286,7 @@ fn put_groups(
 #[tactic(auto, using(crate::proofs::SpellingLemmas::pieces), unfolding(crate::specs::Spelling::schema_bytes))]
 fn put_schema(writer: &mut Writer, columns: &[MetaColumn]) -> Result<(), NoMemory>
     requires columns { All IsColumn columns.now }
-    requires few { length columns.now ≤ 101 }
+    requires few { length columns.now ≤ MAX_FILE_COLUMNS }
     ensures bytes { OnOk result (writer.new ≡ writer.old ++ spec.schema_bytes columns.now) }
     ensures text { OnOk result (All IsNamed columns.now) }
 {

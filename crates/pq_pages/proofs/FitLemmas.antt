@@ -12,7 +12,7 @@ use Rattle.pq_encodings.specs.declared.fault.EncFault.{EncFault}
 use Rattle.pq_encodings.specs.declared.plain.Physical.{Physical}
 use Rattle.pq_encodings.specs.declared.plain.Physical.TheVariants as physical
 use Rattle.pq_encodings.specs.Indices.{indices_before, indices_in}
-use Rattle.pq_encodings.specs.Plain.{most_bytes}
+use Rattle.pq_encodings.specs.declared.strings.TheConstants.{MAX_STRING}
 use Rattle.pq_encodings.specs.Runs.{levels_in}
 use Rattle.pq_encodings.specs.Values.{AreShort, Values, bools, i32s, i64s, strings, count_of, kind_of, made, values_in}
 use Rattle.pq_pages.specs.declared.chunk.ChunkSpec.{ChunkSpec}
@@ -23,12 +23,14 @@ use Rattle.pq_pages.specs.declared.headers.Coding.{Coding}
 use Rattle.pq_pages.specs.declared.headers.Coding.TheVariants as coding
 use Rattle.pq_pages.specs.declared.headers.Page.{Page}
 use Rattle.pq_pages.specs.declared.headers.Page.TheVariants as page
-use Rattle.pq_pages.specs.Answers.{fault_of, of_fields, of_values, ◌then◌}
+use Rattle.answers.specs.Answers.{◌>>=◌}
+use Rattle.answers.proofs.AnswerLemmas.{steps, ok_same, err_ok}
+use Rattle.pq_pages.specs.Answers.{fault_of, of_fields, of_values}
 use Rattle.pq_pages.specs.Headers.{coding_of, header_of, is_code, no_page, page_field, plain_coded, runs_coded}
 use Rattle.pq_pages.specs.Pages.{Cells, Chunk, all_texts, are_texts, behind_header, cells_in, chunk_of, cut_off, data_coding, data_levels, data_page, data_v2_coding, data_v2_levels, data_v2_page, dictionary_page, entries_at, entries_of, fits, flags_in, framed, in_page, indexed_values, is_one, is_whole, joined, judged, no_cells, no_values, page_in, page_values, pages_in, picked, plain_before, plain_values, run_values, whole, whole_levels, with_cells}
 use Rattle.pq_pages.specs.Writing.{AreTexts}
 use Rattle.pq_pages.specs.Fitting.{FitSpec}
-use Rattle.thrift_structs.specs.Structs.{struct_of}
+use Rattle.thrift_compact.specs.Structs.{struct_of}
 
 -- what the laws of the encodings say
 abbrev pub LevelsAsked : Type 0
@@ -42,24 +44,8 @@ ValuesAsked = (kind : Physical) (count : ℕ) (bytes : List ℕ) (vs : Values) �
 
 -- ---- Readings that have a value
 
--- the first reading had one, and the second
-pub record Both {A B : Type 0} (read : Result A PageFault) (more : A → Result B PageFault) (y : B) : Type 0 where
-  pub first : A
-  pub had : read ≡ Ok first
-  pub then_had : more first ≡ Ok y
-
-pub both : {A B : Type 0} (read : Result A PageFault) (more : A → Result B PageFault) (y : B) → (read then more) ≡ Ok y → Both read more y
-both (Ok x) more y h = record { first = x; had = refl; then_had = h }
-both (Err e) more y h = cc
-
-pub err_ok : {A : Type 0} (e : PageFault) (y : A) → ◌≡◌ {A = Result A PageFault} (Err e) (Ok y) → ⊥
-err_ok e y h = cc
-
-pub ok_is : {A : Type 0} (x y : A) → ◌≡◌ {A = Result A PageFault} (Ok x) (Ok y) → x ≡ y
-ok_is x y h = cc
-
 pub ok_enc : {A : Type 0} (read : Result A EncFault) (x : A) → of_values read ≡ Ok x → read ≡ Ok x
-ok_enc (Ok y) x h = let same : y ≡ x = ok_is y x h in ap (λ z. Ok z) same
+ok_enc (Ok y) x h = let same : y ≡ x = ok_same y x h in ap (λ z. Ok z) same
 ok_enc (Err e) x h = cc
 
 -- ---- Values
@@ -90,12 +76,12 @@ texts_are false place (strings xs) h e = cc
 
 pub judged_ok : (text : Bool) (place : ℕ) (read : Result Values EncFault) (before vs : Values) → judged text place read before ≡ Ok vs → (read ≡ Ok vs) × (are_texts text place vs ≡ Ok tt)
 judged_ok text place (Ok ws) before vs h =
-    let b = both (are_texts text place ws) (λ u. Ok ws) vs h in
-    let same : ws ≡ vs = ok_is ws vs b.then_had in
-    (ap (λ (v : Values). Ok v) same, subst (λ v. are_texts text place v ≡ Ok tt) same b.had)
+    let b = steps (are_texts text place ws) (λ u. Ok ws) vs h in
+    let same : ws ≡ vs = ok_same ws vs b.later in
+    (ap (λ (v : Values). Ok v) same, subst (λ v. are_texts text place v ≡ Ok tt) same b.gives)
 judged_ok text place (Err e) before vs h =
-    let b = both {B = Values} (are_texts text place before) (λ u. Err (fault_of e)) vs h in
-    absurd (err_ok (fault_of e) vs b.then_had)
+    let b = steps {B = Values} (are_texts text place before) (λ u. Err (fault_of e)) vs h in
+    absurd (err_ok (fault_of e) vs b.later)
 
 plain_fit : ValuesAsked → (kind : Physical) (text : Bool) (place count : ℕ) (bytes : List ℕ) (vs : Values) → plain_values kind text place count bytes ≡ Ok vs → Fit kind count text vs
 unfolding plain_values
@@ -107,10 +93,10 @@ plain_fit law kind text place count bytes vs h =
 pub flags_count : LevelsAsked → (count : ℕ) (bytes : List ℕ) (flags : List Bool) → flags_in count bytes ≡ Ok flags → length flags ≡ count
 unfolding flags_in
 flags_count law count bytes flags h =
-    let b = both (of_values (levels_in 1 bytes count)) (λ xs. Ok (map is_one xs)) flags h in
-    let read = ok_enc (levels_in 1 bytes count) b.first b.had in
-    let same : map is_one b.first ≡ flags = ok_is _ _ b.then_had in
-    ap length (sym same) ∙ length-map b.first is_one ∙ law 1 count bytes b.first read
+    let b = steps (of_values (levels_in 1 bytes count)) (λ xs. Ok (map is_one xs)) flags h in
+    let read = ok_enc (levels_in 1 bytes count) b.value b.gives in
+    let same : map is_one b.value ≡ flags = ok_same _ _ b.later in
+    ap length (sym same) ∙ length-map b.value is_one ∙ law 1 count bytes b.value read
 
 pub which : {A : Type 0} (t : Bool) (x y r : A) → cond t x y ≡ r → ((t ≡ true) × (x ≡ r)) ⊎ ((t ≡ false) × (y ≡ r))
 which true x y r h = inl (refl, h)
@@ -121,7 +107,7 @@ none_fit physical.Boolean count text h = record { kind = refl; size = sym h; sho
 none_fit physical.Int32 count text h = record { kind = refl; size = sym h; short = tt; texts = λ e. tt }
 none_fit physical.Int64 count text h = record { kind = refl; size = sym h; short = tt; texts = λ e. tt }
 none_fit physical.ByteArray count text h =
-    record { kind = refl; size = sym h; short = All-nil (λ (x : List ℕ). length x ≤ most_bytes); texts = λ e. All-nil (λ (x : List ℕ). IsUtf8 x) }
+    record { kind = refl; size = sym h; short = All-nil (λ (x : List ℕ). length x ≤ MAX_STRING); texts = λ e. All-nil (λ (x : List ℕ). IsUtf8 x) }
 
 bools_fit : (count : ℕ) (text : Bool) (flags : List Bool) → length flags ≡ count → Fit physical.Boolean count text (bools flags)
 bools_fit count text flags h = record { kind = refl; size = h; short = tt; texts = λ e. tt }
@@ -129,16 +115,16 @@ bools_fit count text flags h = record { kind = refl; size = h; short = tt; texts
 run_fit : LevelsAsked → (text : Bool) (count : ℕ) (bytes : List ℕ) (vs : Values) → run_values count bytes ≡ Ok vs → Fit physical.Boolean count text vs
 unfolding run_values
 run_fit law text count bytes vs h =
-    let more : Result Values PageFault = framed bytes then λ parts. flags_in count parts.0 then λ flags. Ok (bools flags) in
+    let more : Result Values PageFault = framed bytes >>= λ parts. flags_in count parts.0 >>= λ flags. Ok (bools flags) in
     elim (which (nat_eq count 0) (Ok (bools [])) more (Ok vs) h) [
       | inl a ↦
-          let same : bools [] ≡ vs = ok_is (bools []) vs a.1 in
+          let same : bools [] ≡ vs = ok_same (bools []) vs a.1 in
           subst (λ v. Fit physical.Boolean count text v) same (none_fit physical.Boolean count text (eqb-true count 0 a.0))
       | inr a ↦
-          let b = both (framed bytes) (λ parts. flags_in count parts.0 then λ flags. Ok (bools flags)) vs a.1 in
-          let c = both (flags_in count b.first.0) (λ flags. Ok (bools flags)) vs b.then_had in
-          let same : bools c.first ≡ vs = ok_is (bools c.first) vs c.then_had in
-          subst (λ v. Fit physical.Boolean count text v) same (bools_fit count text c.first (flags_count law count b.first.0 c.first c.had))
+          let b = steps (framed bytes) (λ parts. flags_in count parts.0 >>= λ flags. Ok (bools flags)) vs a.1 in
+          let c = steps (flags_in count b.value.0) (λ flags. Ok (bools flags)) vs b.later in
+          let same : bools c.value ≡ vs = ok_same (bools c.value) vs c.later in
+          subst (λ v. Fit physical.Boolean count text v) same (bools_fit count text c.value (flags_count law count b.value.0 c.value c.gives))
     ]
 
 -- ---- Entries of a dictionary
@@ -160,7 +146,7 @@ picked_short (bools xs) numbers short below = tt
 picked_short (i32s xs) numbers short below = tt
 picked_short (i64s xs) numbers short below = tt
 picked_short (strings xs) numbers short below =
-    All-map (λ (x : List ℕ). length x ≤ most_bytes) (λ i. get_or xs i []) numbers (λ k d h. short (get_or numbers k d) [] (below k d h))
+    All-map (λ (x : List ℕ). length x ≤ MAX_STRING) (λ i. get_or xs i []) numbers (λ k d h. short (get_or numbers k d) [] (below k d h))
 
 record Made {X : Type 0} (f : X → Values) (read : Result X EncFault) (vs : Values) : Type 0 where
   pub value : X
@@ -200,7 +186,7 @@ unfolding indexed_values
 indexed_fit law kind text place dictionary count bytes vs fits h =
     elim (which (nat_eq count 0) (Ok (no_values kind)) (entries_of text place dictionary count bytes) (Ok vs) h) [
       | inl a ↦
-          let same : no_values kind ≡ vs = ok_is (no_values kind) vs a.1 in
+          let same : no_values kind ≡ vs = ok_same (no_values kind) vs a.1 in
           subst (λ v. Fit kind count text v) same (none_fit kind count text (eqb-true count 0 a.0))
       | inr a ↦ entries_of_fit law kind text place dictionary count bytes vs fits a.1
     ]
@@ -254,7 +240,7 @@ joins (bools xs) (bools ys) same = record { kind = refl; size = length-append xs
 joins (i32s xs) (i32s ys) same = record { kind = refl; size = length-append xs ys; short = λ a b. tt; texts = λ a b. tt }
 joins (i64s xs) (i64s ys) same = record { kind = refl; size = length-append xs ys; short = λ a b. tt; texts = λ a b. tt }
 joins (strings xs) (strings ys) same =
-    record { kind = refl; size = length-append xs ys; short = All-append (λ (x : List ℕ). length x ≤ most_bytes) xs ys; texts = All-append (λ (x : List ℕ). IsUtf8 x) xs ys }
+    record { kind = refl; size = length-append xs ys; short = All-append (λ (x : List ℕ). length x ≤ MAX_STRING) xs ys; texts = All-append (λ (x : List ℕ). IsUtf8 x) xs ys }
 joins (bools xs) (i32s ys) same = cc
 joins (bools xs) (i64s ys) same = cc
 joins (bools xs) (strings ys) same = cc
@@ -273,11 +259,11 @@ with_cells_sound : Laws → (spec : ChunkSpec) (had : Chunk) (way : Coding) (fla
 unfolding with_cells
 with_cells_sound laws spec had way flags bytes new sound runs all_true h =
     let count = count_by (λ flag. flag) flags in
-    let b = both (page_values spec had way count bytes) (λ vs. Ok (record had { defined = had.defined ++ flags; values = joined had.values vs })) new h in
-    let vs : Values = b.first in
-    let fit = page_fit laws spec had way count bytes vs sound runs b.had in
+    let b = steps (page_values spec had way count bytes) (λ vs. Ok (record had { defined = had.defined ++ flags; values = joined had.values vs })) new h in
+    let vs : Values = b.value in
+    let fit = page_fit laws spec had way count bytes vs sound runs b.gives in
     let j = joins had.values vs (sound.kind ∙ sym fit.kind) in
-    let same : record had { defined = had.defined ++ flags; values = joined had.values vs } ≡ new = ok_is _ new b.then_had in
+    let same : record had { defined = had.defined ++ flags; values = joined had.values vs } ≡ new = ok_same _ new b.later in
     subst (λ c. Sound spec c) same (record {
       kind = j.kind ∙ sound.kind;
       matched = omega (arith, j.size, sound.matched, fit.size, sum_by-append (λ flag. cond flag 1 0) had.defined flags);
@@ -291,55 +277,55 @@ levels_required : (optional : Bool) (count : ℕ) (body : List ℕ) (found : Lis
 unfolding data_levels
 levels_required true count body found h e = cc
 levels_required false count body found h e =
-    let same : (replicate count true, body) ≡ found = ok_is _ found h in
+    let same : (replicate count true, body) ≡ found = ok_same _ found h in
     subst (λ (x : List Bool × List ℕ). All (λ (flag : Bool). flag ≡ true) x.0) same (All-replicate (λ (flag : Bool). flag ≡ true) count true refl)
 
 levels_v2_required : (optional : Bool) (count size : ℕ) (body : List ℕ) (found : List Bool × List ℕ) → data_v2_levels optional count size body ≡ Ok found → optional ≡ false → All (λ flag. flag ≡ true) found.0
 unfolding data_v2_levels
 levels_v2_required true count size body found h e = cc
 levels_v2_required false count size body found h e =
-    let same : (replicate count true, drop size body) ≡ found = ok_is _ found h in
+    let same : (replicate count true, drop size body) ≡ found = ok_same _ found h in
     subst (λ (x : List Bool × List ℕ). All (λ (flag : Bool). flag ≡ true) x.0) same (All-replicate (λ (flag : Bool). flag ≡ true) count true refl)
 
 data_runs : (spec : ChunkSpec) (had : Chunk) (count : ℕ) (encoding : ℤ) (levels_encoding : Option ℤ) (way : Coding) → data_coding spec had count encoding levels_encoding ≡ Ok way → way ≡ coding.Runs → spec.kind ≡ physical.Boolean
 unfolding data_coding
 data_runs spec had count encoding levels_encoding way h =
-    let b = both (fits spec had count) (λ u. coding_of spec.kind encoding then λ w. runs_coded levels_encoding then λ v. Ok w) way h in
-    let c = both (coding_of spec.kind encoding) (λ w. runs_coded levels_encoding then λ v. Ok w) way b.then_had in
-    let d = both (runs_coded levels_encoding) (λ v. Ok c.first) way c.then_had in
-    let same : c.first ≡ way = ok_is c.first way d.then_had in
-    λ e. runs_are_boolean spec.kind encoding c.first c.had (same ∙ e)
+    let b = steps (fits spec had count) (λ u. coding_of spec.kind encoding >>= λ w. runs_coded levels_encoding >>= λ v. Ok w) way h in
+    let c = steps (coding_of spec.kind encoding) (λ w. runs_coded levels_encoding >>= λ v. Ok w) way b.later in
+    let d = steps (runs_coded levels_encoding) (λ v. Ok c.value) way c.later in
+    let same : c.value ≡ way = ok_same c.value way d.later in
+    λ e. runs_are_boolean spec.kind encoding c.value c.gives (same ∙ e)
 
 data_v2_runs : (spec : ChunkSpec) (had : Chunk) (count : ℕ) (encoding : ℤ) (size repetition : ℕ) (body : List ℕ) (way : Coding) → data_v2_coding spec had count encoding size repetition body ≡ Ok way → way ≡ coding.Runs → spec.kind ≡ physical.Boolean
 unfolding data_v2_coding
 data_v2_runs spec had count encoding size repetition body way h =
-    let b = both (fits spec had count) (λ u. coding_of spec.kind encoding then λ w. whole_levels size repetition body then λ v. Ok w) way h in
-    let c = both (coding_of spec.kind encoding) (λ w. whole_levels size repetition body then λ v. Ok w) way b.then_had in
-    let d = both (whole_levels size repetition body) (λ v. Ok c.first) way c.then_had in
-    let same : c.first ≡ way = ok_is c.first way d.then_had in
-    λ e. runs_are_boolean spec.kind encoding c.first c.had (same ∙ e)
+    let b = steps (fits spec had count) (λ u. coding_of spec.kind encoding >>= λ w. whole_levels size repetition body >>= λ v. Ok w) way h in
+    let c = steps (coding_of spec.kind encoding) (λ w. whole_levels size repetition body >>= λ v. Ok w) way b.later in
+    let d = steps (whole_levels size repetition body) (λ v. Ok c.value) way c.later in
+    let same : c.value ≡ way = ok_same c.value way d.later in
+    λ e. runs_are_boolean spec.kind encoding c.value c.gives (same ∙ e)
 
 data_sound : Laws → (spec : ChunkSpec) (had : Chunk) (count : ℕ) (way : Coding) (body : List ℕ) (new : Chunk) → Sound spec had → (way ≡ coding.Runs → spec.kind ≡ physical.Boolean)
     → data_page spec had count way body ≡ Ok new → Sound spec new
 unfolding data_page
 data_sound laws spec had count way body new sound runs h =
-    let b = both (data_levels spec.optional count body) (λ found. with_cells spec had way found.0 found.1) new h in
-    with_cells_sound laws spec had way b.first.0 b.first.1 new sound runs (levels_required spec.optional count body b.first b.had) b.then_had
+    let b = steps (data_levels spec.optional count body) (λ found. with_cells spec had way found.0 found.1) new h in
+    with_cells_sound laws spec had way b.value.0 b.value.1 new sound runs (levels_required spec.optional count body b.value b.gives) b.later
 
 data_v2_sound : Laws → (spec : ChunkSpec) (had : Chunk) (count size : ℕ) (way : Coding) (body : List ℕ) (new : Chunk) → Sound spec had → (way ≡ coding.Runs → spec.kind ≡ physical.Boolean)
     → data_v2_page spec had count size way body ≡ Ok new → Sound spec new
 unfolding data_v2_page
 data_v2_sound laws spec had count size way body new sound runs h =
-    let b = both (data_v2_levels spec.optional count size body) (λ found. with_cells spec had way found.0 found.1) new h in
-    with_cells_sound laws spec had way b.first.0 b.first.1 new sound runs (levels_v2_required spec.optional count size body b.first b.had) b.then_had
+    let b = steps (data_v2_levels spec.optional count size body) (λ found. with_cells spec had way found.0 found.1) new h in
+    with_cells_sound laws spec had way b.value.0 b.value.1 new sound runs (levels_v2_required spec.optional count size body b.value b.gives) b.later
 
 dictionary_sound : Laws → (spec : ChunkSpec) (had : Chunk) (count : ℕ) (encoding : ℤ) (body : List ℕ) (new : Chunk) → Sound spec had → dictionary_page spec had count encoding body ≡ Ok new → Sound spec new
 unfolding dictionary_page
 dictionary_sound laws spec had count encoding body new sound h =
-    let b = both (plain_coded encoding) (λ u. of_values (values_in spec.kind count body) then λ entries. Ok (record had { dictionary = Some entries })) new h in
-    let c = both (of_values (values_in spec.kind count body)) (λ entries. Ok (record had { dictionary = Some entries })) new b.then_had in
-    let asked = laws.values spec.kind count body c.first (ok_enc (values_in spec.kind count body) c.first c.had) in
-    let same : record had { dictionary = Some c.first } ≡ new = ok_is _ new c.then_had in
+    let b = steps (plain_coded encoding) (λ u. of_values (values_in spec.kind count body) >>= λ entries. Ok (record had { dictionary = Some entries })) new h in
+    let c = steps (of_values (values_in spec.kind count body)) (λ entries. Ok (record had { dictionary = Some entries })) new b.later in
+    let asked = laws.values spec.kind count body c.value (ok_enc (values_in spec.kind count body) c.value c.gives) in
+    let same : record had { dictionary = Some c.value } ≡ new = ok_same _ new c.later in
     subst (λ x. Sound spec x) same (record {
       kind = sound.kind;
       matched = sound.matched;
@@ -351,32 +337,32 @@ dictionary_sound laws spec had count encoding body new sound h =
 
 in_page_sound : Laws → (spec : ChunkSpec) (had : Chunk) (found : Page) (body : List ℕ) (new : Chunk) → Sound spec had → in_page spec had found body ≡ Ok new → Sound spec new
 in_page_sound laws spec had (page.Data count encoding levels_encoding) body new sound h =
-    let b = both (data_coding spec had count encoding levels_encoding) (λ way. data_page spec had count way body) new h in
-    data_sound laws spec had count b.first body new sound (data_runs spec had count encoding levels_encoding b.first b.had) b.then_had
+    let b = steps (data_coding spec had count encoding levels_encoding) (λ way. data_page spec had count way body) new h in
+    data_sound laws spec had count b.value body new sound (data_runs spec had count encoding levels_encoding b.value b.gives) b.later
 in_page_sound laws spec had (page.DataV2 count encoding size repetition) body new sound h =
-    let b = both (data_v2_coding spec had count encoding size repetition body) (λ way. data_v2_page spec had count size way body) new h in
-    data_v2_sound laws spec had count size b.first body new sound (data_v2_runs spec had count encoding size repetition body b.first b.had) b.then_had
+    let b = steps (data_v2_coding spec had count encoding size repetition body) (λ way. data_v2_page spec had count size way body) new h in
+    data_v2_sound laws spec had count size b.value body new sound (data_v2_runs spec had count encoding size repetition body b.value b.gives) b.later
 in_page_sound laws spec had (page.Dictionary count encoding) body new sound h = dictionary_sound laws spec had count encoding body new sound h
-in_page_sound laws spec had page.Other body new sound h = subst (λ x. Sound spec x) (ok_is had new h) sound
+in_page_sound laws spec had page.Other body new sound h = subst (λ x. Sound spec x) (ok_same had new h) sound
 
 behind_sound : Laws → (spec : ChunkSpec) (had : Chunk) (header : PageHeader) (bytes : List ℕ) (new : Chunk × List ℕ) → Sound spec had → behind_header spec had header bytes ≡ Ok new → Sound spec new.0
 unfolding behind_header
 behind_sound laws spec had header bytes new sound h =
-    let more : Result (Chunk × List ℕ) PageFault = in_page spec had header.page (take header.size bytes) then λ c. Ok (c, drop header.size bytes) in
+    let more : Result (Chunk × List ℕ) PageFault = in_page spec had header.page (take header.size bytes) >>= λ c. Ok (c, drop header.size bytes) in
     elim (which (nat_lt (length bytes) header.size) (Err cut_off) more (Ok new) h) [
       | inl a ↦ absurd (err_ok cut_off new a.1)
       | inr a ↦
-          let b = both (in_page spec had header.page (take header.size bytes)) (λ c. Ok (c, drop header.size bytes)) new a.1 in
-          let same : (b.first, drop header.size bytes) ≡ new = ok_is _ new b.then_had in
-          subst (λ (x : Chunk × List ℕ). Sound spec x.0) same (in_page_sound laws spec had header.page (take header.size bytes) b.first sound b.had)
+          let b = steps (in_page spec had header.page (take header.size bytes)) (λ c. Ok (c, drop header.size bytes)) new a.1 in
+          let same : (b.value, drop header.size bytes) ≡ new = ok_same _ new b.later in
+          subst (λ (x : Chunk × List ℕ). Sound spec x.0) same (in_page_sound laws spec had header.page (take header.size bytes) b.value sound b.gives)
     ]
 
 page_sound : Laws → (spec : ChunkSpec) (end : ℕ) (had : Chunk) (bytes : List ℕ) (new : Chunk × List ℕ) → Sound spec had → page_in spec end had bytes ≡ Ok new → Sound spec new.0
 unfolding page_in
 page_sound laws spec end had bytes new sound h =
-    let b = both (of_fields (struct_of page_field no_page end bytes)) (λ draft. header_of spec.optional draft.0 then λ header. behind_header spec had header draft.1) new h in
-    let c = both (header_of spec.optional b.first.0) (λ header. behind_header spec had header b.first.1) new b.then_had in
-    behind_sound laws spec had c.first b.first.1 new sound c.then_had
+    let b = steps (of_fields (struct_of page_field no_page end bytes)) (λ draft. header_of spec.optional draft.0 >>= λ header. behind_header spec had header draft.1) new h in
+    let c = steps (header_of spec.optional b.value.0) (λ header. behind_header spec had header b.value.1) new b.later in
+    behind_sound laws spec had c.value b.value.1 new sound c.later
 
 -- all cells were had, and they are sound
 record Whole (spec : ChunkSpec) (had : Chunk) : Type 0 where
@@ -387,7 +373,7 @@ whole_sound : (spec : ChunkSpec) (had new : Chunk) → Sound spec had → whole 
 whole_sound spec had new sound h =
     elim (which (is_whole spec had) (Ok had) (Err (fault.Count spec.num_values (length had.defined))) (Ok new) h) [
       | inl a ↦
-          let same : had ≡ new = ok_is had new a.1 in
+          let same : had ≡ new = ok_same had new a.1 in
           subst (λ x. Whole spec x) same (record { sound = sound; counted = eqb-true _ _ a.0 })
       | inr a ↦ absurd (err_ok _ new a.1)
     ]
@@ -396,11 +382,11 @@ pages_sound : Laws → (spec : ChunkSpec) (end most : ℕ) (had : Chunk) (bytes 
 unfolding pages_in
 pages_sound laws spec end zero had bytes new sound h = whole_sound spec had new sound h
 pages_sound laws spec end (suc most) had bytes new sound h =
-    elim (which (is_whole spec had || nat_eq (length bytes) 0) (whole spec had) (page_in spec end had bytes then λ x. pages_in spec end most x.0 x.1) (Ok new) h) [
+    elim (which (is_whole spec had || nat_eq (length bytes) 0) (whole spec had) (page_in spec end had bytes >>= λ x. pages_in spec end most x.0 x.1) (Ok new) h) [
       | inl a ↦ whole_sound spec had new sound a.1
       | inr a ↦
-          let b = both (page_in spec end had bytes) (λ x. pages_in spec end most x.0 x.1) new a.1 in
-          pages_sound laws spec end most b.first.0 b.first.1 new (page_sound laws spec end had bytes b.first sound b.had) b.then_had
+          let b = steps (page_in spec end had bytes) (λ x. pages_in spec end most x.0 x.1) new a.1 in
+          pages_sound laws spec end most b.value.0 b.value.1 new (page_sound laws spec end had bytes b.value sound b.gives) b.later
     ]
 
 none_sound : (spec : ChunkSpec) → Sound spec (no_cells spec.kind)
@@ -417,11 +403,11 @@ unfolding chunk_of
 chunk_fits levels indices values spec bytes cells h =
     let laws : Laws = record { levels = levels; indices = indices; values = values } in
     let size = length bytes in
-    let more : Result Cells PageFault = pages_in spec size size (no_cells spec.kind) bytes then λ had. Ok (cells_in had) in
+    let more : Result Cells PageFault = pages_in spec size size (no_cells spec.kind) bytes >>= λ had. Ok (cells_in had) in
     elim (which (is_code 0 spec.codec) more (Err (fault.Compressed spec.codec)) (Ok cells) h) [
       | inl a ↦
-          let b = both (pages_in spec size size (no_cells spec.kind) bytes) (λ had. Ok (cells_in had)) cells a.1 in
-          let same : cells_in b.first ≡ cells = ok_is _ cells b.then_had in
-          subst (λ x. FitSpec spec x) same (fit_of spec b.first (pages_sound laws spec size size (no_cells spec.kind) bytes b.first (none_sound spec) b.had))
+          let b = steps (pages_in spec size size (no_cells spec.kind) bytes) (λ had. Ok (cells_in had)) cells a.1 in
+          let same : cells_in b.value ≡ cells = ok_same _ cells b.later in
+          subst (λ x. FitSpec spec x) same (fit_of spec b.value (pages_sound laws spec size size (no_cells spec.kind) bytes b.value (none_sound spec) b.gives))
       | inr a ↦ absurd (err_ok _ cells a.1)
     ]

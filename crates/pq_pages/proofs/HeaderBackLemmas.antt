@@ -7,7 +7,8 @@ use Rattle.thrift_compact.specs.Reading.{Read, start_of, signed_in, field_header
 use Rattle.thrift_compact.specs.Shortest.{field_spelling, signed_spelling}
 use Rattle.thrift_compact.specs.Laws.{ReadsBack}
 use Rattle.thrift_compact.specs.declared.types.TheConstants.{I32, STRUCT}
-use Rattle.thrift_structs.specs.Structs.{count_in, struct_in, struct_of}
+use Rattle.thrift_compact.specs.Reading.{count_in}
+use Rattle.thrift_compact.specs.Structs.{struct_in, struct_of}
 use Rattle.pq_pages.specs.declared.drafts.DataDraft.{DataDraft}
 use Rattle.pq_pages.specs.declared.drafts.PageDraft.{PageDraft}
 use Rattle.pq_pages.specs.Headers.{data_field, no_data, no_page, page_field}

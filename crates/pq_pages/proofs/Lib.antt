@@ -5,6 +5,7 @@ pub mod PageLemmas
 pub mod HeaderBackLemmas
 pub mod ChunkBackLemmas
 pub mod FitLemmas
+pub mod LevelsHeldLemmas
 pub mod HeldLemmas
 pub mod HoldingLemmas
-pub mod TestLemmas
+pub mod PushLemmas

@@ -1,11 +1,11 @@
 -- Pages, one turn of the loop at a time.
 use Rattle.std.proofs.Common.{◌≡◌, ℕ, ◌+◌, ◌-◌, ◌<◌, ◌≤◌, zero, suc, List, length, nat_eq, ◌||◌, true, false, refl, arith}
 use Rattle.pq_pages.specs.declared.chunk.ChunkSpec.{ChunkSpec}
-use Rattle.pq_pages.specs.Answers.{◌then◌}
+use Rattle.answers.specs.Answers.{◌>>=◌}
 use Rattle.pq_pages.specs.Pages.{Chunk, is_whole, page_in, pages_in, whole}
 
 pub pages_step : (spec : ChunkSpec) (end count i : ℕ) (had : Chunk) (bytes : List ℕ) → i < count → (is_whole spec had || nat_eq (length bytes) 0) ≡ false
-    → pages_in spec end (count - i) had bytes ≡ (page_in spec end had bytes then λ x. pages_in spec end (count - (i + 1)) x.0 x.1)
+    → pages_in spec end (count - i) had bytes ≡ (page_in spec end had bytes >>= λ x. pages_in spec end (count - (i + 1)) x.0 x.1)
 unfolding pages_in
 pages_step spec end count i had bytes lt go =
     let k : count - i ≡ suc (count - (i + 1)) = omega arith in

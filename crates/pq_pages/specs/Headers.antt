@@ -1,8 +1,10 @@
 -- What a page's header says (Apache Parquet format, parquet.thrift: PageHeader).
 use Rattle.std.specs.Prelude.{ℕ, ℤ, pos, negsuc, ◌^◌, List, Option, Some, None, Result, Ok, Err, Bool, true, false, ◌==◌, ◌&&◌, if◌then◌else◌, ⊤}
-use Rattle.thrift_compact.specs.Reading.{Read, ◌>>=◌, start_of, signed_in}
+use Rattle.answers.specs.Answers.{◌>>=◌}
+use Rattle.thrift_compact.specs.Reading.{Read, start_of, signed_in}
 use Rattle.thrift_compact.specs.declared.types.TheConstants.{I32, STRUCT}
-use Rattle.thrift_structs.specs.Structs.{count_in, is_field, struct_of, unknown}
+use Rattle.thrift_compact.specs.Reading.{count_in}
+use Rattle.thrift_compact.specs.Structs.{is_field, struct_of, unknown}
 use Rattle.pq_encodings.specs.declared.plain.Physical.{Physical}
 use Rattle.pq_encodings.specs.declared.plain.Physical.TheVariants as physical
 use Rattle.pq_pages.specs.declared.drafts.DataDraft.{DataDraft}
@@ -16,7 +18,7 @@ use Rattle.pq_pages.specs.declared.headers.Coding.TheVariants as coding
 use Rattle.pq_pages.specs.declared.headers.Page.{Page}
 use Rattle.pq_pages.specs.declared.headers.Page.TheVariants as page
 use Rattle.pq_pages.specs.declared.headers.PageHeader.{PageHeader}
-use Rattle.pq_pages.specs.Answers.{◌then◌}
+use Rattle.answers.specs.Answers.{◌>>=◌}
 
 -- ---- The compact fields
 
@@ -69,33 +71,33 @@ page_field end draft id ty bytes =
 
 -- ---- The required fields, by rising number
 
-abbrev pub need : {A : Type 0} → ℕ → Option A → Result A PageFault
+abbrev pub need : {A : Type 0} → ℤ → Option A → Result A PageFault
 need id None = Err (fault.Missing id)
 need id (Some x) = Ok x
 
 -- Of an OPTIONAL column the encoding of the levels is required, else it is ignored.
 abbrev pub need_levels : Bool → Option ℤ → Result (Option ℤ) PageFault
-need_levels optional code = if optional then (need 3 code then λ found. Ok (Some found)) else Ok None
+need_levels optional code = if optional then (need (pos 3) code >>= λ found. Ok (Some found)) else Ok None
 
 unfoldable pub data_of : Bool → DataDraft → Result Page PageFault
 data_of optional draft =
-    need 1 draft.num_values then λ count.
-    need 2 draft.encoding then λ encoding.
-    need_levels optional draft.levels_encoding then λ levels.
+    need (pos 1) draft.num_values >>= λ count.
+    need (pos 2) draft.encoding >>= λ encoding.
+    need_levels optional draft.levels_encoding >>= λ levels.
     Ok (page.Data count encoding levels)
 
 unfoldable pub data_v2_of : DataV2Draft → Result Page PageFault
 data_v2_of draft =
-    need 1 draft.num_values then λ count.
-    need 4 draft.encoding then λ encoding.
-    need 5 draft.levels_length then λ levels.
-    need 6 draft.repetition_length then λ repetition.
+    need (pos 1) draft.num_values >>= λ count.
+    need (pos 4) draft.encoding >>= λ encoding.
+    need (pos 5) draft.levels_length >>= λ levels.
+    need (pos 6) draft.repetition_length >>= λ repetition.
     Ok (page.DataV2 count encoding levels repetition)
 
 unfoldable pub dictionary_of : DictionaryDraft → Result Page PageFault
 dictionary_of draft =
-    need 1 draft.num_values then λ count.
-    need 2 draft.encoding then λ encoding.
+    need (pos 1) draft.num_values >>= λ count.
+    need (pos 2) draft.encoding >>= λ encoding.
     Ok (page.Dictionary count encoding)
 
 -- is it this code
@@ -106,16 +108,16 @@ is_code n (negsuc m) = false
 -- the types of pages: data 0, dictionary 2, data of the second form 3
 unfoldable pub page_of : Bool → ℤ → PageDraft → Result Page PageFault
 page_of optional kind draft =
-    if is_code 0 kind then (need 5 draft.data_page then data_of optional) else
-    if is_code 2 kind then (need 7 draft.dictionary_page then dictionary_of) else
-    if is_code 3 kind then (need 8 draft.data_page_v2 then data_v2_of) else
+    if is_code 0 kind then (need (pos 5) draft.data_page >>= data_of optional) else
+    if is_code 2 kind then (need (pos 7) draft.dictionary_page >>= dictionary_of) else
+    if is_code 3 kind then (need (pos 8) draft.data_page_v2 >>= data_v2_of) else
     Ok page.Other
 
 unfoldable pub header_of : Bool → PageDraft → Result PageHeader PageFault
 header_of optional draft =
-    need 1 draft.kind then λ kind.
-    need 3 draft.size then λ size.
-    page_of optional kind draft then λ found.
+    need (pos 1) draft.kind >>= λ kind.
+    need (pos 3) draft.size >>= λ size.
+    page_of optional kind draft >>= λ found.
     Ok (record { size = size; page = found })
 
 -- ---- Encodings

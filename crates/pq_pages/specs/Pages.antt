@@ -4,7 +4,7 @@ use Rattle.std.specs.Prelude.{ℕ, ℤ, pos, zero, suc, ◌+◌, ◌++◌, ◌==
 use Rattle.std.specs.List.{count_by}
 use Rattle.std.specs.Str.{is_utf8}
 use Rattle.byteorder.specs.Endian.{little_number}
-use Rattle.thrift_structs.specs.Structs.{struct_of}
+use Rattle.thrift_compact.specs.Structs.{struct_of}
 use Rattle.pq_encodings.specs.declared.fault.EncFault.{EncFault}
 use Rattle.pq_encodings.specs.declared.fault.EncFault.TheVariants as enc
 use Rattle.pq_encodings.specs.declared.plain.Physical.{Physical}
@@ -24,7 +24,8 @@ use Rattle.pq_pages.specs.declared.headers.Page.TheVariants as page
 use Rattle.pq_pages.specs.declared.headers.PageHeader.{PageHeader}
 use Rattle.pq_pages.specs.declared.levels.Levels.{Levels}
 use Rattle.pq_pages.specs.declared.levels.Levels.TheVariants as levels
-use Rattle.pq_pages.specs.Answers.{fault_of, of_fields, of_values, ◌then◌}
+use Rattle.answers.specs.Answers.{◌>>=◌}
+use Rattle.pq_pages.specs.Answers.{fault_of, of_fields, of_values}
 use Rattle.pq_pages.specs.Headers.{coding_of, header_of, is_code, no_page, page_field, plain_coded, runs_coded}
 
 -- ---- Cells
@@ -69,7 +70,7 @@ is_one x = x == 1
 
 -- runs of width 1
 unfoldable pub flags_in : ℕ → List ℕ → Result (List Bool) PageFault
-flags_in count bytes = of_values (levels_in 1 bytes count) then λ xs. Ok (map is_one xs)
+flags_in count bytes = of_values (levels_in 1 bytes count) >>= λ xs. Ok (map is_one xs)
 
 -- the levels of a data page, which may be that all its cells are values
 abbrev pub flags_of : Levels → List Bool
@@ -80,14 +81,14 @@ flags_of (levels.Given flags) = flags.items
 unfoldable pub data_levels : Bool → ℕ → List ℕ → Result (List Bool × List ℕ) PageFault
 data_levels optional count body =
     if optional
-    then (if nat_eq count 0 then Ok ([], body) else (framed body then λ parts. flags_in count parts.0 then λ flags. Ok (flags, parts.1)))
+    then (if nat_eq count 0 then Ok ([], body) else (framed body >>= λ parts. flags_in count parts.0 >>= λ flags. Ok (flags, parts.1)))
     else Ok (replicate count true, body)
 
 -- the same of a data page of the second form, whose header says how long the levels are
 unfoldable pub data_v2_levels : Bool → ℕ → ℕ → List ℕ → Result (List Bool × List ℕ) PageFault
 data_v2_levels optional count size body =
     if optional
-    then (flags_in count (take size body) then λ flags. Ok (flags, drop size body))
+    then (flags_in count (take size body) >>= λ flags. Ok (flags, drop size body))
     else Ok (replicate count true, drop size body)
 
 -- ---- Texts
@@ -105,8 +106,8 @@ are_texts text place (strings xs) = if text then all_texts place xs else Ok tt
 
 -- Values that were read, or the fault at which the reading ended and the values before it: value by value.
 abbrev pub judged : Bool → ℕ → Result Values EncFault → Values → Result Values PageFault
-judged text place (Ok vs) before = are_texts text place vs then λ u. Ok vs
-judged text place (Err e) before = are_texts text place before then λ u. Err (fault_of e)
+judged text place (Ok vs) before = are_texts text place vs >>= λ u. Ok vs
+judged text place (Err e) before = are_texts text place before >>= λ u. Err (fault_of e)
 
 -- ---- Values of a data page
 
@@ -123,7 +124,7 @@ plain_values kind text place count bytes = judged text place (values_in kind cou
 -- booleans as runs behind their length; of no values no byte is needed
 unfoldable pub run_values : ℕ → List ℕ → Result Values PageFault
 run_values count bytes =
-    if nat_eq count 0 then Ok (bools []) else (framed bytes then λ parts. flags_in count parts.0 then λ flags. Ok (bools flags))
+    if nat_eq count 0 then Ok (bools []) else (framed bytes >>= λ parts. flags_in count parts.0 >>= λ flags. Ok (bools flags))
 
 -- the entries with these numbers
 abbrev pub picked : Values → List ℕ → Values
@@ -165,7 +166,7 @@ page_values spec had coding.Runs count bytes = run_values count bytes
 -- the cells of a data page, of which the levels were read
 unfoldable pub with_cells : ChunkSpec → Chunk → Coding → List Bool → List ℕ → Result Chunk PageFault
 with_cells spec had way flags bytes =
-    page_values spec had way (count_by (λ flag. flag) flags) bytes then λ vs.
+    page_values spec had way (count_by (λ flag. flag) flags) bytes >>= λ vs.
     Ok (record had { defined = had.defined ++ flags; values = joined had.values vs })
 
 -- a page has no more cells than the chunk still wants
@@ -176,14 +177,14 @@ fits spec had count =
 -- how the values of a data page stand, unless its header is refused
 unfoldable pub data_coding : ChunkSpec → Chunk → ℕ → ℤ → Option ℤ → Result Coding PageFault
 data_coding spec had count encoding levels_encoding =
-    fits spec had count then λ u.
-    coding_of spec.kind encoding then λ way.
-    runs_coded levels_encoding then λ v.
+    fits spec had count >>= λ u.
+    coding_of spec.kind encoding >>= λ way.
+    runs_coded levels_encoding >>= λ v.
     Ok way
 
 unfoldable pub data_page : ChunkSpec → Chunk → ℕ → Coding → List ℕ → Result Chunk PageFault
 data_page spec had count way body =
-    data_levels spec.optional count body then λ found.
+    data_levels spec.optional count body >>= λ found.
     with_cells spec had way found.0 found.1
 
 -- the levels that a page of the second form states are whole in it, and there are no repetition levels
@@ -195,28 +196,28 @@ whole_levels size repetition body =
 
 unfoldable pub data_v2_coding : ChunkSpec → Chunk → ℕ → ℤ → ℕ → ℕ → List ℕ → Result Coding PageFault
 data_v2_coding spec had count encoding size repetition body =
-    fits spec had count then λ u.
-    coding_of spec.kind encoding then λ way.
-    whole_levels size repetition body then λ v.
+    fits spec had count >>= λ u.
+    coding_of spec.kind encoding >>= λ way.
+    whole_levels size repetition body >>= λ v.
     Ok way
 
 unfoldable pub data_v2_page : ChunkSpec → Chunk → ℕ → ℕ → Coding → List ℕ → Result Chunk PageFault
 data_v2_page spec had count size way body =
-    data_v2_levels spec.optional count size body then λ found.
+    data_v2_levels spec.optional count size body >>= λ found.
     with_cells spec had way found.0 found.1
 
 -- a later dictionary takes the place of an earlier one
 unfoldable pub dictionary_page : ChunkSpec → Chunk → ℕ → ℤ → List ℕ → Result Chunk PageFault
 dictionary_page spec had count encoding body =
-    plain_coded encoding then λ u.
-    of_values (values_in spec.kind count body) then λ entries.
+    plain_coded encoding >>= λ u.
+    of_values (values_in spec.kind count body) >>= λ entries.
     Ok (record had { dictionary = Some entries })
 
 abbrev pub in_page : ChunkSpec → Chunk → Page → List ℕ → Result Chunk PageFault
 in_page spec had (page.Data count encoding levels_encoding) body =
-    data_coding spec had count encoding levels_encoding then λ way. data_page spec had count way body
+    data_coding spec had count encoding levels_encoding >>= λ way. data_page spec had count way body
 in_page spec had (page.DataV2 count encoding size repetition) body =
-    data_v2_coding spec had count encoding size repetition body then λ way. data_v2_page spec had count size way body
+    data_v2_coding spec had count encoding size repetition body >>= λ way. data_v2_page spec had count size way body
 in_page spec had (page.Dictionary count encoding) body = dictionary_page spec had count encoding body
 in_page spec had page.Other body = Ok had
 
@@ -224,13 +225,13 @@ in_page spec had page.Other body = Ok had
 unfoldable pub behind_header : ChunkSpec → Chunk → PageHeader → List ℕ → Result (Chunk × List ℕ) PageFault
 behind_header spec had header bytes =
     if nat_lt (length bytes) header.size then Err cut_off else
-    (in_page spec had header.page (take header.size bytes) then λ new. Ok (new, drop header.size bytes))
+    (in_page spec had header.page (take header.size bytes) >>= λ new. Ok (new, drop header.size bytes))
 
 -- a page, of a chunk whose bytes end at the offset `end`
 unfoldable pub page_in : ChunkSpec → ℕ → Chunk → List ℕ → Result (Chunk × List ℕ) PageFault
 page_in spec end had bytes =
-    of_fields (struct_of page_field no_page end bytes) then λ draft.
-    header_of spec.optional draft.0 then λ header.
+    of_fields (struct_of page_field no_page end bytes) >>= λ draft.
+    header_of spec.optional draft.0 >>= λ header.
     behind_header spec had header draft.1
 
 abbrev pub is_whole : ChunkSpec → Chunk → Bool
@@ -245,14 +246,18 @@ unfoldable pub pages_in : ChunkSpec → ℕ → ℕ → Chunk → List ℕ → R
 pages_in spec end zero had bytes = whole spec had
 pages_in spec end (suc most) had bytes =
     if is_whole spec had || nat_eq (length bytes) 0 then whole spec had else
-    (page_in spec end had bytes then λ x. pages_in spec end most x.0 x.1)
+    (page_in spec end had bytes >>= λ x. pages_in spec end most x.0 x.1)
 
 abbrev pub cells_in : Chunk → Cells
 cells_in had = record { defined = had.defined; values = had.values }
+
+-- the cells of pages that were read
+abbrev pub cells_had : Result Chunk PageFault → Result Cells PageFault
+cells_had pages = pages >>= λ had. Ok (cells_in had)
 
 -- the chunk's cells, or the first fault
 unfoldable pub chunk_of : ChunkSpec → List ℕ → Result Cells PageFault
 chunk_of spec bytes =
     if is_code 0 spec.codec
-    then (pages_in spec (length bytes) (length bytes) (no_cells spec.kind) bytes then λ had. Ok (cells_in had))
+    then (pages_in spec (length bytes) (length bytes) (no_cells spec.kind) bytes >>= λ had. Ok (cells_in had))
     else Err (fault.Compressed spec.codec)

@@ -2,7 +2,8 @@
 
 ghost use Rattle.std.specs.Prelude.{◌≡◌, ◌+◌, ◌++◌, ◌<◌, ◌^◌, IfOk, OnOk, Some, length};
 ghost use Rattle.pq_encodings.specs.Values.{count_of, values_of};
-ghost use Rattle.pq_pages.specs.Answers.{Gives};
+ghost use Rattle.answers.specs.Answers.{Gives};
+ghost use Rattle.pq_pages.specs.Answers.{is_memory};
 ghost use Rattle.pq_pages.specs.Pages.{cells_in, cells_of, flags_of, joined, no_cells};
 ghost use Rattle.pq_pages.specs.Pages as pages;
 
@@ -101,7 +102,7 @@ impl Column {
         count: u64,
         bytes: &[u8],
     ) -> Result<Plain, PageFault>
-        ensures { Gives values_of result (pages.page_values spec.now self.now coding count bytes.now) }
+        ensures { Gives is_memory values_of result (pages.page_values spec.now self.now coding count bytes.now) }
     {
         let place = count_of(&self.plain);
         match coding {

@@ -1,12 +1,11 @@
 //! The compact fields of page headers (Apache Parquet format, `parquet.thrift`: PageHeader and the headers inside it).
 
 ghost use Rattle.thrift_compact.specs.Cursor.{end_of};
-ghost use Rattle.thrift_structs.specs.Structs.{Fills};
+ghost use Rattle.thrift_compact.specs.Structs.{Fills};
 ghost use Rattle.pq_pages.specs.Headers.{data_field, data_v2_field, dictionary_field, no_data, no_data_v2, no_dictionary, no_page, page_field};
 
 use std::alloc::Global;
-use thrift_compact::Reader;
-use thrift_structs::{Parts, StructFault, pass_field, read_count, read_int, read_struct};
+use thrift_compact::{Parts, Reader, StructFault, pass_field, read_count, read_int, read_struct};
 
 /// What is read of a DataPageHeader.
 #[derive(Clone, Copy, Debug, PartialEq, Eq)]

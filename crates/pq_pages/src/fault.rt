@@ -5,8 +5,7 @@ ghost use Rattle.pq_pages.specs.declared.fault.PageFault.TheVariants.{Memory};
 use pq_encodings::EncFault;
 use std::alloc::{AllocError, AllocFailed};
 use thiserror::Error;
-use thrift_compact::ThriftFault;
-use thrift_structs::StructFault;
+use thrift_compact::{StructFault, ThriftFault};
 
 /// Why a column chunk is not read: the first fault in reading order.
 #[derive(Clone, Copy, Debug, PartialEq, Eq, Error)]
@@ -22,7 +21,7 @@ pub enum PageFault {
     Thrift(ThriftFault),
     /// A page's header, or the struct inside it, lacks a field.
     #[error("a page's header lacks the field {id}")]
-    Missing { id: u16 },
+    Missing { id: i16 },
     /// Levels, values or indices. Places count from their first byte; `Short { at: 0 }` says too that a page, or
     /// levels or booleans behind their length, go past the bytes that are there.
     #[error("a page's values: {0}")]

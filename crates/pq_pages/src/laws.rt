@@ -1,4 +1,4 @@
-//! What holds of written chunks. Each function's contract is a law.
+//! What holds of chunks, read and written. Each function's contract is a law.
 
 ghost use Rattle.std.specs.Prelude.{◌≡◌, ◌↔◌, ◌≤◌, ◌+◌, ◌*◌, ℕ, Bool, List, Ok, length, true};
 ghost use Rattle.pq_encodings.specs.Values.{AreInRange, plain_size};

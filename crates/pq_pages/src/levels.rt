@@ -2,9 +2,10 @@
 
 ghost use Rattle.std.specs.Prelude.{◌≡◌, ◌<◌, ◌≤◌, ◌^◌, Ok, Err, MatchResult, IfOk, length, map};
 ghost use Rattle.std.specs.List.{count_by};
-ghost use Rattle.pq_encodings.specs.Answers.{Gives as ValuesGive};
+ghost use Rattle.pq_encodings.specs.Faults.{is_memory as is_values_memory};
 ghost use Rattle.pq_encodings.specs.Runs.{levels_in};
-ghost use Rattle.pq_pages.specs.Answers.{Gives};
+ghost use Rattle.answers.specs.Answers.{Gives};
+ghost use Rattle.pq_pages.specs.Answers.{is_memory};
 ghost use Rattle.pq_pages.specs.Pages.{flags_in, flags_of, framed, is_one};
 ghost use Rattle.pq_pages.specs.Pages as pages;
 
@@ -54,7 +55,7 @@ pub fn split_framed(bytes: &[u8]) -> Result<(&[u8], &[u8]), PageFault>
 
 /// Numbers of width 1.
 fn numbers_in(alloc: Global, count: u64, bytes: &[u8]) -> Result<Vec<u32>, EncFault>
-    ensures { ValuesGive (λ v. v.items) result (levels_in 1 bytes.now count) }
+    ensures { Gives is_values_memory (λ v. v.items) result (levels_in 1 bytes.now count) }
 {
     decode_levels(alloc, bytes, 1, count)
 }
@@ -68,7 +69,7 @@ fn as_flags(alloc: Global, numbers: &[u32]) -> Result<Vec<bool>, AllocError>
 /// So many flags from runs of width 1. A number other than 1 is no flag.
 #[tactic(auto, unfolding(crate::specs::Pages::flags_in))]
 pub fn read_flags(alloc: Global, count: u64, bytes: &[u8]) -> Result<Vec<bool>, PageFault>
-    ensures { Gives (λ v. v.items) result (flags_in count bytes.now) }
+    ensures { Gives is_memory (λ v. v.items) result (flags_in count bytes.now) }
 {
     let numbers = numbers_in(alloc, count, bytes)?;
     Ok(as_flags(alloc, numbers.as_slice())?)
@@ -82,7 +83,7 @@ pub fn data_levels(
     count: u32,
     body: &[u8],
 ) -> Result<(Levels, &[u8]), PageFault>
-    ensures { Gives (λ x. (flags_of x.0, x.1.now)) result (pages.data_levels optional count body.now) }
+    ensures { Gives is_memory (λ x. (flags_of x.0, x.1.now)) result (pages.data_levels optional count body.now) }
 {
     if !optional {
         return Ok((Levels::All(count), body));
@@ -109,7 +110,7 @@ pub fn data_v2_levels(
     body: &[u8],
 ) -> Result<(Levels, &[u8]), PageFault>
     requires { size ≤ length body.now }
-    ensures { Gives (λ x. (flags_of x.0, x.1.now)) result (pages.data_v2_levels optional count size body.now) }
+    ensures { Gives is_memory (λ x. (flags_of x.0, x.1.now)) result (pages.data_v2_levels optional count size body.now) }
 {
     let (runs, bytes) = body.split_at(size as usize);
     if !optional {

@@ -24,6 +24,3 @@ pub use fault::PageFault;
 pub use laws::{body_size, reads_as_said, reads_back, reads_what_is_held};
 pub use reading::read_chunk;
 pub use writing::{push_chunk, write_chunk};
-
-#[cfg(test)]
-mod tests;

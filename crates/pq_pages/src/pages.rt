@@ -2,9 +2,10 @@
 
 ghost use Rattle.std.specs.Prelude.{◌≡◌, ◌≤◌, ◌<◌, ◌+◌, ◌-◌, Ok, Err, MatchResult, IfOk, OnOk, drop, length, take};
 ghost use Rattle.thrift_compact.specs.Cursor.{end_of};
-ghost use Rattle.thrift_structs.specs.Structs.{struct_of};
+ghost use Rattle.thrift_compact.specs.Structs.{struct_of};
 ghost use Rattle.pq_encodings.specs.Values.{values_in, values_of};
-ghost use Rattle.pq_pages.specs.Answers.{Gives, Moves, Takes, Turns, of_fields, of_values};
+ghost use Rattle.answers.specs.Answers.{Gives};
+ghost use Rattle.pq_pages.specs.Answers.{Moves, Takes, Turns, of_fields, of_values};
 ghost use Rattle.pq_pages.specs.Headers.{no_page, page_field};
 ghost use Rattle.pq_pages.specs.Pages.{behind_header, cut_off, flags_of, page_in, pages_in};
 ghost use Rattle.pq_pages.specs.Pages as pages;
@@ -18,8 +19,7 @@ use crate::levels::{Levels, data_levels, data_v2_levels};
 use crate::values::decoded_plain;
 use pq_encodings::{EncFault, Plain};
 use std::alloc::Global;
-use thrift_compact::Reader;
-use thrift_structs::read_struct;
+use thrift_compact::{Reader, read_struct};
 
 /// Whether a page has no more cells than the chunk still wants.
 #[tactic(auto, unfolding(crate::specs::Pages::fits))]
@@ -226,6 +226,7 @@ fn read_behind(
 }
 
 /// Reads the compact fields of a page's header.
+#[tactic(auto, using(crate::proofs::AnswerLemmas::fields_fail))]
 fn read_draft(alloc: Global, reader: &mut Reader) -> Result<PageDraft, PageFault>
     ensures { Takes reader.old reader.new result (of_fields (struct_of page_field no_page (end_of reader.old) reader.old.rest)) }
 {

@@ -1,10 +1,11 @@
 //! A column chunk, read.
 
 ghost use Rattle.std.specs.Prelude.{◌≡◌, ◌≢◌, pos, Result, Ok, Err, IfOk};
-ghost use Rattle.pq_pages.specs.Answers.{Gives, Turns, ◌then◌};
+ghost use Rattle.answers.specs.Answers.{Gives};
+ghost use Rattle.pq_pages.specs.Answers.{Turns, is_memory};
 ghost use Rattle.pq_pages.specs.Fitting.{FitSpec};
 ghost use Rattle.pq_pages.specs.Holding.{AnswersChunk};
-ghost use Rattle.pq_pages.specs.Pages.{Chunk, cells_in, cells_of, chunk_of};
+ghost use Rattle.pq_pages.specs.Pages.{Chunk, cells_had, cells_of, chunk_of};
 ghost use Rattle.pq_pages.specs.declared.fault.PageFault.{PageFault};
 ghost use Rattle.pq_pages.specs.declared.fault.PageFault.TheVariants.{Compressed};
 
@@ -17,9 +18,9 @@ use std::alloc::Global;
 use thrift_compact::Reader;
 
 /// The cells that were had, unless the pages ended at a fault.
-#[tactic(auto, using(crate::proofs::AnswerLemmas::handed_on))]
+#[tactic(auto, using(answers::proofs::AnswerLemmas::handed_on))]
 fn finished(column: Column, read: Result<(), PageFault>) -> Result<RawCells, PageFault>
-    ensures { (pages : Result Chunk PageFault) → Turns read column pages → Gives cells_of result (pages then λ had. Ok (cells_in had)) }
+    ensures { (pages : Result Chunk PageFault) → Turns read column pages → Gives is_memory cells_of result (cells_had pages) }
 {
     match read {
         Ok(()) => Ok(column.into_cells()),
@@ -30,7 +31,7 @@ fn finished(column: Column, read: Result<(), PageFault>) -> Result<RawCells, Pag
 /// The chunk's cells, or the first fault.
 #[tactic(auto, unfolding(crate::specs::Pages::chunk_of))]
 fn chunk_cells(alloc: Global, bytes: &[u8], spec: &ChunkSpec) -> Result<RawCells, PageFault>
-    ensures exact { Gives cells_of result (chunk_of spec.now bytes.now) }
+    ensures exact { Gives is_memory cells_of result (chunk_of spec.now bytes.now) }
     ensures compressed { spec.now.codec ≢ pos 0 → result ≡ Err (Compressed spec.now.codec) }
 {
     if spec.codec != 0 {
@@ -47,7 +48,7 @@ fn chunk_cells(alloc: Global, bytes: &[u8], spec: &ChunkSpec) -> Result<RawCells
 /// Memory is taken for values and levels that the bytes hold, at most as many as the chunk is said to have.
 pub fn read_chunk(alloc: Global, bytes: &[u8], spec: &ChunkSpec) -> Result<RawCells, PageFault>
     // The cells, exactly where the bytes have them; else the first fault, with its place.
-    ensures exact { Gives cells_of result (chunk_of spec.now bytes.now) }
+    ensures exact { Gives is_memory cells_of result (chunk_of spec.now bytes.now) }
 
     // The cells that the chunk holds, and no others; or a fault, where it holds none.
     ensures holds { AnswersChunk spec.now bytes.now result }

@@ -1,10 +1,11 @@
 //! The values of a data page.
 
 ghost use Rattle.std.specs.Prelude.{◌≡◌, ◌<◌, ◌^◌, All, Ok, Err, IfOk, option_map};
-ghost use Rattle.pq_encodings.specs.Answers.{Gives as ValuesGive};
+ghost use Rattle.pq_encodings.specs.Faults.{is_memory as is_values_memory};
 ghost use Rattle.pq_encodings.specs.Indices.{indices_before, indices_in};
 ghost use Rattle.pq_encodings.specs.Values.{Values, count_of, values_in, values_of};
-ghost use Rattle.pq_pages.specs.Answers.{Gives, fault_of, ◌then◌};
+ghost use Rattle.answers.specs.Answers.{Gives};
+ghost use Rattle.pq_pages.specs.Answers.{fault_of, is_memory};
 ghost use Rattle.pq_pages.specs.Pages as pages;
 
 use crate::chunk::ChunkSpec;
@@ -36,7 +37,7 @@ pub fn decoded_plain(
     count: u64,
     bytes: &[u8],
 ) -> Result<Plain, EncFault>
-    ensures { ValuesGive values_of result (values_in kind count bytes.now) }
+    ensures { Gives is_values_memory values_of result (values_in kind count bytes.now) }
 {
     decode_plain(alloc, kind, count, bytes)
 }
@@ -78,7 +79,7 @@ pub fn plain_values(
     bytes: &[u8],
 ) -> Result<Plain, PageFault>
     requires { place < 2 ^ 63 }
-    ensures { Gives values_of result (pages.plain_values kind text place count bytes.now) }
+    ensures { Gives is_memory values_of result (pages.plain_values kind text place count bytes.now) }
 {
     match decoded_plain(alloc, kind, count, bytes) {
         Ok(values) => match are_texts(text, place, &values) {
@@ -96,7 +97,7 @@ pub fn plain_values(
 /// Booleans as runs behind their length.
 #[tactic(auto, unfolding(crate::specs::Pages::run_values))]
 pub fn run_values(alloc: Global, count: u64, bytes: &[u8]) -> Result<Plain, PageFault>
-    ensures { Gives values_of result (pages.run_values count bytes.now) }
+    ensures { Gives is_memory values_of result (pages.run_values count bytes.now) }
 {
     if count == 0 {
         return Ok(Plain::Bools(Vec::new(alloc)));
@@ -108,7 +109,7 @@ pub fn run_values(alloc: Global, count: u64, bytes: &[u8]) -> Result<Plain, Page
 }
 
 fn decoded_indices(alloc: Global, bytes: &[u8], count: u64, size: u64) -> Result<Vec<u32>, EncFault>
-    ensures gives { ValuesGive (λ v. v.items) result (indices_in bytes.now count size) }
+    ensures gives { Gives is_values_memory (λ v. v.items) result (indices_in bytes.now count size) }
     ensures below { IfOk result (λ v. All (λ x. x < size) v.items) }
 {
     decode_indices(alloc, bytes, count, size)
@@ -138,7 +139,7 @@ fn entries_at(
     bytes: &[u8],
 ) -> Result<Plain, PageFault>
     requires { place < 2 ^ 63 }
-    ensures { Gives values_of result (pages.entries_at text place (values_of entries.now) count bytes.now) }
+    ensures { Gives is_memory values_of result (pages.entries_at text place (values_of entries.now) count bytes.now) }
 {
     let size = count_of(entries);
     match decoded_indices(alloc, bytes, count, size) {
@@ -169,7 +170,7 @@ pub fn indexed_values(
     bytes: &[u8],
 ) -> Result<Plain, PageFault>
     requires { place < 2 ^ 63 }
-    ensures { Gives values_of result (pages.indexed_values spec.now.kind spec.now.text place (option_map values_of dictionary.now) count bytes.now) }
+    ensures { Gives is_memory values_of result (pages.indexed_values spec.now.kind spec.now.text place (option_map values_of dictionary.now) count bytes.now) }
 {
     if count == 0 {
         return Ok(no_values(alloc, spec.kind));

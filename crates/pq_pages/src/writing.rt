@@ -1,6 +1,6 @@
 //! A column chunk, written.
 
-ghost use Rattle.std.specs.Prelude.{◌≡◌, ◌<◌, ◌<ℤ◌, ◌^◌, ◌+◌, ◌++◌, ℤ, pos, length, IfOk, OnOk};
+ghost use Rattle.std.specs.Prelude.{◌≡◌, ◌<◌, ◌<ℤ◌, ◌^◌, ◌+◌, ◌++◌, ℤ, pos, length, IfOk, OnOk, OnErr};
 ghost use Rattle.pq_encodings.specs.Levels.{level_bytes};
 ghost use Rattle.pq_encodings.specs.Values.{AreShort, value_bytes, values_of};
 ghost use Rattle.pq_pages.specs.Pages.{cells_of};
@@ -84,15 +84,26 @@ fn levels_part(alloc: Global, optional: bool, flags: &[bool]) -> Result<Vec<u8>,
     Ok(part)
 }
 
-/// Appends a page behind its header.
-fn push_body(out: &mut Vec<u8>, levels: &[u8], values: &[u8]) -> Result<(), AllocError>
-    ensures { OnOk result (out.new.items ≡ out.old.items ++ (levels.now ++ values.now)) }
+/// Appends two slices, or nothing.
+#[tactic(auto, using(crate::proofs::PushLemmas::taken_back))]
+fn push_both(out: &mut Vec<u8>, front: &[u8], back: &[u8]) -> Result<(), AllocError>
+    ensures ok { OnOk result (out.new.items ≡ out.old.items ++ (front.now ++ back.now)) }
+    ensures err { OnErr result (out.new.items ≡ out.old.items) }
 {
-    out.extend_from_slice(levels)?;
-    out.extend_from_slice(values)
+    let had = out.len();
+    out.extend_from_slice(front)?;
+    match out.extend_from_slice(back) {
+        Ok(()) => Ok(()),
+        Err(error) => {
+            out.truncate(had);
+            Err(error)
+        }
+    }
 }
 
-/// Appends a chunk of cells: which of them are values, and the plain bytes of those that are.
+/// Appends a chunk of cells: which of them are values, and the plain bytes of those that are. Where memory runs out
+/// nothing is appended.
+#[tactic(auto, using(crate::proofs::PushLemmas::regrouped))]
 pub fn push_chunk(
     alloc: Global,
     out: &mut Vec<u8>,
@@ -103,12 +114,13 @@ pub fn push_chunk(
     requires few { length flags.now < 2 ^ 31 }
     requires small { length (page_bytes optional flags.now values.now) < 2 ^ 31 }
     ensures spelled { OnOk result (out.new.items ≡ out.old.items ++ whole_page optional flags.now values.now) }
+    ensures err { OnErr result (out.new.items ≡ out.old.items) }
 {
     let levels = levels_part(alloc, optional, flags)?;
     let size = levels.len() + values.len();
-    let header = page_header(alloc, size as u32, flags.len() as u32)?;
-    out.extend_from_slice(header.as_slice())?;
-    push_body(out, levels.as_slice(), values)
+    let mut front = page_header(alloc, size as u32, flags.len() as u32)?;
+    front.extend_from_slice(levels.as_slice())?;
+    push_both(out, front.as_slice(), values)
 }
 
 /// The bytes of a chunk with these cells: one data page, plain and not compressed.

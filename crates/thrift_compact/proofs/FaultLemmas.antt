@@ -4,7 +4,8 @@ use Rattle.std.specs.Prelude.{int_lt}
 use Rattle.thrift_compact.specs.declared.fault.ThriftFault.{ThriftFault}
 use Rattle.thrift_compact.specs.declared.fault.ThriftFault.TheVariants.{Short, BadType, TooWide}
 use Rattle.thrift_compact.specs.Spelling.{from_zigzag, signed_byte, high_bits, low_bits}
-use Rattle.thrift_compact.specs.Reading.{◌>>=◌, is_type, number_in, unsigned_in, signed_in, byte_in, bytes_in, binary_in, list_header_in, field_header_in}
+use Rattle.answers.specs.Answers.{◌>>=◌}
+use Rattle.thrift_compact.specs.Reading.{is_type, number_in, unsigned_in, signed_in, byte_in, bytes_in, binary_in, list_header_in, field_header_in}
 use Rattle.thrift_compact.specs.Cursor.{place_of}
 use Rattle.thrift_compact.proofs.Matching.{done}
 

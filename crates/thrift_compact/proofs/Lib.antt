@@ -11,3 +11,5 @@ pub mod PrefixLemmas
 pub mod TreeLemmas
 pub mod StandingLemmas
 pub mod LawLemmas
+pub mod StructLemmas
+pub mod TextLemmas

@@ -1,7 +1,8 @@
 -- How reading and spellings fit together: what is read is a spelling, and each spelling is read.
 use Rattle.std.proofs.Common.{◌≡◌, ℕ, ◌⊎◌, Bool, true, false, cond, List, ◌++◌, Result, Ok, Err, refl, sym, ap, ◌∙◌, append_assoc, inl, inr}
 use Rattle.thrift_compact.specs.declared.fault.ThriftFault.{ThriftFault}
-use Rattle.thrift_compact.specs.Reading.{◌>>=◌, Read}
+use Rattle.answers.specs.Answers.{◌>>=◌}
+use Rattle.thrift_compact.specs.Reading.{Read}
 use Rattle.thrift_compact.specs.Spelling.{Then}
 
 -- what a chain read, its first part read too

@@ -3,7 +3,8 @@ use Rattle.std.proofs.Common.{◌≡◌, ℕ, ℤ, zero, suc, ◌+◌, ◌*◌, 
 use Rattle.std.proofs.lemmas.Bool.{ltb-false, le-ltb, ltb-true, lt-ltb}
 use Rattle.std.proofs.lemmas.List.{take_at, drop_at, take-append-drop, length-append, length-take}
 use Rattle.thrift_compact.specs.declared.fault.ThriftFault.TheVariants.{Short, TooWide}
-use Rattle.thrift_compact.specs.Reading.{◌>>=◌, number_in, unsigned_in, signed_in, byte_in, bytes_in, binary_in}
+use Rattle.answers.specs.Answers.{◌>>=◌}
+use Rattle.thrift_compact.specs.Reading.{number_in, unsigned_in, signed_in, byte_in, bytes_in, binary_in}
 use Rattle.thrift_compact.specs.Spelling.{IsNumber, IsUnsigned, from_zigzag, IsSigned, signed_byte, IsByte, IsBytes, IsBinary}
 use Rattle.thrift_compact.proofs.Matching.{bind_ok, chosen, ok_is, failed, Takes, Matches, then_matches, guard_matches, as_matches, map_matches}
 

@@ -1,7 +1,8 @@
 -- One turn of the loops that pass over elements and fields, and the cases of a value.
 use Rattle.std.proofs.Common.{◌≡◌, ℕ, ℤ, zero, suc, ◌+◌, ◌-◌, ◌<◌, ◌≤◌, List, Ok, Err, Option, Some, None, refl, arith, true, false}
 use Rattle.thrift_compact.specs.declared.fault.ThriftFault.TheVariants.{Short, TooDeep}
-use Rattle.thrift_compact.specs.Reading.{◌>>=◌, Rest, start_of, after_each, after_fields, after_value, field_header_in, after_plain, is_nested, after_nested}
+use Rattle.answers.specs.Answers.{◌>>=◌}
+use Rattle.thrift_compact.specs.Reading.{Rest, start_of, after_each, after_fields, after_value, field_header_in, after_plain, is_nested, after_nested}
 
 pub each_step : (step : List ℕ → Rest) (count i : ℕ) (bytes : List ℕ) → i < count → after_each step (count - i) bytes ≡ (step bytes >>= after_each step (count - (i + 1)))
 unfolding after_each

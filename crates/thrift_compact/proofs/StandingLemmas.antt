@@ -6,7 +6,8 @@ use Rattle.thrift_compact.specs.declared.fault.ThriftFault.{ThriftFault}
 use Rattle.thrift_compact.specs.declared.fault.ThriftFault.TheVariants.{Short, BadType, TooDeep, TooWide}
 use Rattle.thrift_compact.specs.Spelling.{signed_byte, high_bits, low_bits, IsNumber, IsUnsigned, IsSigned, IsFieldHeader, IsListHeader, Then}
 use Rattle.thrift_compact.specs.Trees.{Tree, IsValue, IsElement}
-use Rattle.thrift_compact.specs.Reading.{◌>>=◌, Read, Rest, rest_of, start_of, is_type, is_flag, is_nested, number_in, unsigned_in, signed_in, byte_in, bytes_in, binary_in, list_header_in, field_header_in, entry_types_in, map_header_in, after_plain, after_each, after_element, after_entry, after_fields, after_nested, after_value}
+use Rattle.answers.specs.Answers.{◌>>=◌}
+use Rattle.thrift_compact.specs.Reading.{Read, Rest, rest_of, start_of, is_type, is_flag, is_nested, number_in, unsigned_in, signed_in, byte_in, bytes_in, binary_in, list_header_in, field_header_in, entry_types_in, map_header_in, after_plain, after_each, after_element, after_entry, after_fields, after_nested, after_value}
 use Rattle.thrift_compact.specs.Laws.{IsShort, FaultsStand, ValueFaultsStand}
 use Rattle.thrift_compact.proofs.SkippingLemmas.{after_field}
 use Rattle.thrift_compact.proofs.Matching.{done, bind_ok, Matches}

@@ -3,7 +3,8 @@ use Rattle.std.proofs.Common.{◌≡◌, ℕ, ℤ, pos, zero, suc, ◌^◌, ◌<
 use Rattle.std.proofs.lemmas.Bool.{eqb-true}
 use Rattle.std.proofs.lemmas.List.{length-append, append-nil}
 use Rattle.thrift_compact.specs.declared.fault.ThriftFault.TheVariants.{Short, BadType, TooDeep}
-use Rattle.thrift_compact.specs.Reading.{◌>>=◌, Read, Rest, rest_of, start_of, signed_in, bytes_in, binary_in, after_plain, is_nested, list_header_in, field_header_in, after_each, map_header_in, after_element, after_entry, after_fields, after_nested, after_value}
+use Rattle.answers.specs.Answers.{◌>>=◌}
+use Rattle.thrift_compact.specs.Reading.{Read, Rest, rest_of, start_of, signed_in, bytes_in, binary_in, after_plain, is_nested, list_header_in, field_header_in, after_each, map_header_in, after_element, after_entry, after_fields, after_nested, after_value}
 use Rattle.thrift_compact.specs.Spelling.{IsUnsigned, IsSigned, Then, IsBytes, IsBinary, IsFieldHeader}
 use Rattle.thrift_compact.specs.Trees.{Tree, Flag, Byte, Int16, Int32, Int64, Double, Binary, Elements, Entries, Fields, TreeList, Nil, Cons, FieldList, Stop, Field, IsPlain, IsSequence, IsEntries, IsElement, IsFields, IsMap, IsNested, IsValue}
 use Rattle.thrift_compact.proofs.SkippingLemmas.{after_field}

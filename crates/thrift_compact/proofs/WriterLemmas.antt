@@ -1,7 +1,7 @@
 -- What is written spells its item, no spelling is shorter, and it reads back.
-use Rattle.std.proofs.Common.{◌≡◌, ℕ, ℤ, pos, negsuc, zero, suc, ◌+◌, ◌-◌, ◌*◌, ◌/◌, ◌%◌, ◌^◌, ◌+ℤ◌, ◌-ℤ◌, ◌<ℤ◌, ◌⊎◌, ◌<◌, ◌≤◌, List, [], ◌∷◌, ◌++◌, length, Some, None, refl, sym, ap, subst, ◌∙◌, append_assoc, ltb, Bool, true, false, lit≤, arith, inl, inr}
+use Rattle.std.proofs.Common.{◌≡◌, ℕ, ℤ, pos, negsuc, zero, suc, ◌+◌, ◌-◌, ◌*◌, ◌/◌, ◌%◌, ◌^◌, ◌+ℤ◌, ◌-ℤ◌, ◌<ℤ◌, ◌<◌, ◌≤◌, List, [], ◌∷◌, ◌++◌, length, Some, None, refl, sym, ap, subst, ◌∙◌, append_assoc, ltb, true, false, lit≤, arith, inl, inr}
 use Rattle.std.specs.Prelude.{nat_lt, if◌then◌else◌, unsigned_abs, int_le, FitsSigned}
-use Rattle.std.proofs.lemmas.Bool.{le-ltb, lt-ltb, cases_lt}
+use Rattle.std.proofs.lemmas.Bool.{cases_Bool, le-ltb, lt-ltb, cases_lt}
 use Rattle.std.specs.Int.{w16, w32, w64}
 use Rattle.std.proofs.lemmas.Int.{ints}
 use Rattle.std.proofs.lemmas.List.{append-nil, length-append}
@@ -76,11 +76,11 @@ unsigned_shortest limit n lt le = record {
   least = λ other s. number_least 10 10 n other s.0;
 }
 
-from_zigzag-to_zigzag : (z : ℤ) → from_zigzag (to_zigzag z) ≡ z
+pub from_zigzag-to_zigzag : (z : ℤ) → from_zigzag (to_zigzag z) ≡ z
 from_zigzag-to_zigzag (pos n) = grind (arith)
 from_zigzag-to_zigzag (negsuc n) = grind (arith)
 
-to_zigzag-from_zigzag : (n : ℕ) → to_zigzag (from_zigzag n) ≡ n
+pub to_zigzag-from_zigzag : (n : ℕ) → to_zigzag (from_zigzag n) ≡ n
 to_zigzag-from_zigzag n = grind (arith)
 
 pub signed_shortest : (limit : ℕ) (z : ℤ) → to_zigzag z < limit → limit ≤ 2 ^ 64 → IsShortest (IsSigned limit) (signed_spelling z) z
@@ -125,10 +125,6 @@ binary_shortest text lt =
 
 -- ---- headers
 
-cases_bool : (b : Bool) → (b ≡ true) ⊎ (b ≡ false)
-cases_bool true = inl refl
-cases_bool false = inr refl
-
 list_spelled : (ty size : ℕ) → IsType ty → size < 2 ^ 32 → IsListHeader (list_spelling ty size) (ty, size)
 unfolding list_spelling
 list_spelled ty size good lt =
@@ -171,7 +167,7 @@ step_near last id step is small = grind (arith, ints)
 field_spelled : (last id : ℤ) (ty : ℕ) → last <ℤ id → IsType ty → id <ℤ pos 32768 → to_zigzag id < 2 ^ 16 → IsField last (field_spelling last id ty) (id, ty)
 unfolding field_spelling
 field_spelled last id ty lt good fits wide =
-    elim (cases_bool (int_le id (last +ℤ pos 15))) [
+    elim (cases_Bool (int_le id (last +ℤ pos 15))) [
       | inl le ↦
           let n = near last id lt le in
           let t : (16 * unsigned_abs (id -ℤ last) + ty) % 16 ≡ ty = omega arith in
@@ -188,7 +184,7 @@ field_least : (last id : ℤ) (ty : ℕ) (other : List ℕ) → to_zigzag id < 2
 unfolding field_spelling
 field_least last id ty [] wide h = absurd h
 field_least last id ty (b ∷ bs) wide (is, good, inl h) =
-    elim (cases_bool (int_le id (last +ℤ pos 15))) [
+    elim (cases_Bool (int_le id (last +ℤ pos 15))) [
       | inl le ↦ rw le (omega arith)
       | inr far ↦ rw far (omega (arith, (signed_shortest (2 ^ 16) id wide (lit≤ tt)).least bs h.1))
     ]

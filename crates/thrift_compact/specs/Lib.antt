@@ -4,4 +4,5 @@ pub mod Shortest
 pub mod Reading
 pub mod Parsing
 pub mod Cursor
+pub mod Structs
 pub mod Laws

@@ -1,5 +1,6 @@
 -- What is read from the front of bytes, or the first fault that is met.
-use Rattle.std.specs.Prelude.{ℕ, ℤ, pos, zero, suc, ◌+◌, ◌-◌, ◌*◌, ◌%◌, ◌^◌, ◌+ℤ◌, int_lt, List, [], ◌∷◌, length, take, drop, Option, Some, None, Result, Ok, Err, Bool, false, nat_lt, nat_le, ◌==◌, ◌||◌, ◌&&◌, if◌then◌else◌}
+use Rattle.std.specs.Prelude.{ℕ, ℤ, pos, negsuc, zero, suc, ◌+◌, ◌-◌, ◌*◌, ◌%◌, ◌^◌, ◌+ℤ◌, int_lt, List, [], ◌∷◌, length, take, drop, Option, Some, None, Result, Ok, Err, Bool, false, nat_lt, nat_le, ◌==◌, ◌||◌, ◌&&◌, if◌then◌else◌}
+use Rattle.answers.specs.Answers.{◌>>=◌}
 use Rattle.thrift_compact.specs.declared.fault.ThriftFault.{ThriftFault}
 use Rattle.thrift_compact.specs.declared.fault.ThriftFault.TheVariants.{Short, BadType, TooDeep, TooWide}
 use Rattle.thrift_compact.specs.declared.types.TheConstants.{TRUE, FALSE, BYTE, I16, I32, I64, DOUBLE, BINARY, LIST, MAP, STRUCT}
@@ -12,11 +13,6 @@ Read A = Result (A × List ℕ) ThriftFault
 -- the bytes behind what was passed over, or the first fault
 abbrev pub Rest : Type 0
 Rest = Result (List ℕ) ThriftFault
-
-infixl 10 ◌>>=◌
-abbrev pub ◌>>=◌ : {A B : Type 0} → Result A ThriftFault → (A → Result B ThriftFault) → Result B ThriftFault
-(Ok x) >>= f = f x
-(Err fault) >>= f = Err fault
 
 abbrev pub rest_of : {A : Type 0} → Read A → Rest
 rest_of (Ok x) = Ok x.1
@@ -42,6 +38,15 @@ unsigned_in at limit bytes = number_in at 10 bytes >>= λ x. if nat_lt x.0 limit
 -- a signed number, of a type with so many values
 unfoldable pub signed_in : ℕ → ℕ → List ℕ → Read ℤ
 signed_in at limit bytes = unsigned_in at limit bytes >>= λ x. Ok (from_zigzag x.0, x.1)
+
+-- a number that counts something, before the bytes behind it
+abbrev pub not_negative : ℕ → ℤ → List ℕ → Read ℕ
+not_negative at (pos n) rest = Ok (n, rest)
+not_negative at (negsuc n) rest = Err (TooWide at)
+
+-- a number that counts something, of a signed type with so many values
+unfoldable pub count_in : ℕ → ℕ → List ℕ → Read ℕ
+count_in at limit bytes = signed_in at limit bytes >>= λ x. not_negative at x.0 x.1
 
 -- a byte as a signed number
 unfoldable pub byte_in : ℕ → List ℕ → Read ℤ

@@ -1,12 +1,14 @@
 ghost use Rattle.std.specs.Prelude.{◌≡◌, ◌^◌, ◌≤◌, drop, length, take};
 ghost use Rattle.thrift_compact.specs.Spelling.{IsSigned, IsByte, IsBinary, IsListHeader, IsFieldHeader};
 ghost use Rattle.thrift_compact.specs.Trees.{IsValue};
-ghost use Rattle.thrift_compact.specs.Reading.{signed_in, byte_in, binary_in, list_header_in, begins_list_of, field_header_in, after_value};
+ghost use Rattle.thrift_compact.specs.Reading.{signed_in, byte_in, binary_in, list_header_in, begins_list_of, count_in, field_header_in, after_value};
 ghost use Rattle.thrift_compact.specs.Cursor.{Cursor, end_of, Finds, FindsSome, Reads, ReadsSlice, Skips};
 
 use crate::fault::ThriftFault;
 use crate::headers::{low_bits, parse_field_header, parse_list_header};
-use crate::scalars::{parse_binary, parse_byte, parse_i32, parse_i64, start_of};
+use crate::scalars::{
+    parse_binary, parse_byte, parse_i32, parse_i64, parse_u32, parse_u64, start_of,
+};
 use crate::skipping::skip_value;
 use std::marker::Model;
 
@@ -93,6 +95,24 @@ impl<'a> Reader<'a> {
         ensures exact { Reads self.old self.new result (signed_in self.old.at (2 ^ 32) self.old.rest) }
     {
         let (value, rest) = parse_i32(self.at(), self.rest)?;
+        self.rest = rest;
+        Ok(value)
+    }
+
+    /// Reads a number of 32 bits that counts something: a negative one is too wide.
+    pub fn read_u32(&mut self) -> Result<u32, ThriftFault>
+        ensures { Reads self.old self.new result (count_in self.old.at (2 ^ 32) self.old.rest) }
+    {
+        let (value, rest) = parse_u32(self.at(), self.rest)?;
+        self.rest = rest;
+        Ok(value)
+    }
+
+    /// Reads a number of 64 bits that counts something: a negative one is too wide.
+    pub fn read_u64(&mut self) -> Result<u64, ThriftFault>
+        ensures { Reads self.old self.new result (count_in self.old.at (2 ^ 64) self.old.rest) }
+    {
+        let (value, rest) = parse_u64(self.at(), self.rest)?;
         self.rest = rest;
         Ok(value)
     }

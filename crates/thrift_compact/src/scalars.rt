@@ -5,7 +5,7 @@
 
 ghost use Rattle.std.specs.Prelude.{◌≡◌, ◌+◌, ◌^◌, ◌<◌, ◌≤◌, length, IfOk};
 ghost use Rattle.thrift_compact.specs.Spelling.{from_zigzag};
-ghost use Rattle.thrift_compact.specs.Reading.{start_of, number_in, unsigned_in, signed_in, byte_in, bytes_in, binary_in};
+ghost use Rattle.thrift_compact.specs.Reading.{start_of, number_in, unsigned_in, signed_in, byte_in, bytes_in, binary_in, count_in};
 ghost use Rattle.thrift_compact.specs.Parsing.{Parses, ParsesSlice};
 
 use crate::fault::ThriftFault;
@@ -106,6 +106,32 @@ pub fn parse_i64(at: u64, bytes: &[u8]) -> Result<(i64, &[u8]), ThriftFault>
 {
     let (n, rest) = parse_unsigned(at, 1 << 64, bytes)?;
     Ok((from_zigzag_64(n), rest))
+}
+
+/// A number of 32 bits that counts something: a negative one is too wide.
+#[tactic(auto, unfolding(crate::specs::Reading::count_in))]
+pub fn parse_u32(at: u64, bytes: &[u8]) -> Result<(u32, &[u8]), ThriftFault>
+    ensures exact { Parses result (count_in at (2 ^ 32) bytes.now) }
+    ensures shorter { IfOk result (λ x. length x.1.now < length bytes.now) }
+{
+    let (number, rest) = parse_i32(at, bytes)?;
+    if number < 0 {
+        return Err(ThriftFault::TooWide { at });
+    }
+    Ok((number as u32, rest))
+}
+
+/// A number of 64 bits that counts something: a negative one is too wide.
+#[tactic(auto, unfolding(crate::specs::Reading::count_in))]
+pub fn parse_u64(at: u64, bytes: &[u8]) -> Result<(u64, &[u8]), ThriftFault>
+    ensures exact { Parses result (count_in at (2 ^ 64) bytes.now) }
+    ensures shorter { IfOk result (λ x. length x.1.now < length bytes.now) }
+{
+    let (number, rest) = parse_i64(at, bytes)?;
+    if number < 0 {
+        return Err(ThriftFault::TooWide { at });
+    }
+    Ok((number as u64, rest))
 }
 
 #[tactic(auto, unfolding(crate::specs::Reading::byte_in))]

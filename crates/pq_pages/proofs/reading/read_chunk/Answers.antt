@@ -1,6 +1,7 @@
 use Rattle.pq_pages.specs.Fitting.{FitSpec}
 use Rattle.pq_pages.specs.Pages.{cells_of, chunk_of}
-use Rattle.pq_pages.proofs.AnswerLemmas.{gives_holds}
+use Rattle.answers.proofs.AnswerLemmas.{gives_holds}
+use Rattle.pq_pages.specs.Answers.{is_memory}
 use Rattle.pq_pages.proofs.HoldingLemmas.{answer_held}
 use Rattle.pq_pages.proofs.reading.read_chunk.Goals as goal
 
@@ -11,5 +12,5 @@ returns-clause-holds c =
 
 pub returns-clause-fit : goal.returns-clause-fit
 returns-clause-fit c =
-    gives_holds cells_of c.chunk_cells.result (chunk_of c.args.spec.now c.args.bytes.now) (λ cells. FitSpec c.args.spec.now cells)
+    gives_holds is_memory cells_of c.chunk_cells.result (chunk_of c.args.spec.now c.args.bytes.now) (λ cells. FitSpec c.args.spec.now cells)
     (c.reads_as_said.ensures c.args.spec.now c.args.bytes.now) c.chunk_cells.ensures.exact
