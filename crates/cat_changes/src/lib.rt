@@ -14,5 +14,3 @@ pub use fault::BadChanges;
 pub use reading::read_changes;
 pub use writing::changes_text;
 
-#[cfg(test)]
-mod tests;

@@ -5,3 +5,4 @@ pub mod KeyLemmas
 pub mod FrameLemmas
 pub mod NowLemmas
 pub mod TellsLemmas
+pub mod IntervalLemmas
