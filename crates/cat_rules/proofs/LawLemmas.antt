@@ -1,20 +1,15 @@
 -- Rules over what kept snapshots see stay after a batch; rules on counters stay where these grow.
-use Rattle.std.proofs.Common.{◌≡◌, ◌⊎◌, inl, inr, ⊎_elim, ℕ, ◌≤◌, ◌||◌, Bool, true, false, List, [], ◌∷◌, Option, Some, None, refl, sym, ◌∙◌, true≢false, arith}
-use Rattle.std.specs.Prelude.{nat_le}
-use Rattle.std.specs.List.{AllByRecursion}
-use Rattle.std.proofs.lemmas.Bool.{leb-true, le-leb, or_cases, or_left, or_right}
+use Rattle.std.proofs.Common.{◌≡◌, inl, inr, ⊎_elim, ℕ, ◌≤◌, ◌||◌, Bool, true, List, Option, Some, None, refl, sym, ◌∙◌, true≢false, arith, ◌+◌}
+use Rattle.std.proofs.lemmas.Bool.{leb-true, le-leb, or_cases, or_left, or_right, le-ltb, ltb-false}
 use Rattle.cat_rows.specs.Batches.{applied}
-use Rattle.cat_rows.specs.Seen.{Seen, seen_at}
+use Rattle.cat_rows.specs.Seen.{Seen}
 use Rattle.cat_rows.specs.Tables.{Tables}
-use Rattle.cat_rows.specs.declared.batch.Batch.{Batch}
 use Rattle.cat_rows.specs.declared.batch.Key.{Key}
 use Rattle.cat_rows.specs.declared.files.TableStatsRow.{TableStatsRow}
-use Rattle.cat_rows.specs.declared.history.SnapshotRow.{SnapshotRow}
-use Rattle.cat_rules.specs.CounterRule.{IsPastCounters, has_large_id, is_not_past}
-use Rattle.cat_rules.specs.EachKept.{AtKept, EachKept, NamesWithout}
+use Rattle.cat_rules.specs.CounterRule.{IsPastCounters, is_not_past}
 use Rattle.cat_rules.specs.First.{Holds}
-use Rattle.cat_rules.specs.Laws.{CountersStay, FieldsStay, Grow, MakesSnapshot, StaysAfter}
-use Rattle.cat_rules.specs.Lookups.{HasRow, IsFieldPast, stats_of_table}
+use Rattle.cat_rules.specs.Laws.{CountersStay, FieldsStay, Grow, StaysAfter, RowIdsStay, InlinedIdsStay}
+use Rattle.cat_rules.specs.Lookups.{HasRow, stats_of_table}
 use Rattle.cat_rules.specs.Rows.{Names, NamesIf}
 use Rattle.cat_rules.proofs.DatedLemmas.{all_fine}
 use Rattle.cat_rules.proofs.FirstLemmas.{SomeOf_like, none_of}
@@ -42,6 +37,20 @@ fields-stay t u table field = go (stats_of_table t table) (stats_of_table u tabl
     go old None grow fine bad = bad
     go None (Some new) grow fine bad = grow
     go (Some old) (Some new) grow fine bad = fine (omega (arith, grow.1))
+
+pub row_ids-stay : RowIdsStay
+row_ids-stay old None start count grow fine = refl
+row_ids-stay old (Some new) None count grow fine = refl
+row_ids-stay None (Some new) (Some start) count grow fine = absurd grow
+row_ids-stay (Some old) (Some new) (Some start) count grow fine = le-ltb new.next_row_id (start + count) (let at = ltb-false old.next_row_id (start + count) fine in omega (arith, grow.0))
+
+pub inlined_ids-stay : InlinedIdsStay
+inlined_ids-stay t u r = go (stats_of_table t r.table_id) (stats_of_table u r.table_id)
+  where
+    go : (old new : Option TableStatsRow) → Grow old new → (HasRow old (λ s. s.next_row_id ≤ r.row_id) → ⊥) → HasRow new (λ s. s.next_row_id ≤ r.row_id) → ⊥
+    go old None grow fine bad = bad
+    go None (Some new) grow fine bad = grow
+    go (Some old) (Some new) grow fine bad = fine (omega (arith, grow.0))
 
 lower : (m n id : ℕ) → m ≤ n → is_not_past n id ≡ true → is_not_past m id ≡ true
 lower m n id le h = le-leb m id (let at = leb-true n id h in omega arith)

@@ -1,5 +1,5 @@
 -- Two rows that lie within the kept snapshots are seen together by one of them exactly where their intervals meet.
-use Rattle.std.proofs.Common.{◌≡◌, ℕ, ◌≤◌, ◌&&◌, Bool, true, false, [], ◌∷◌, Option, Some, None, refl, sym, true≢false, arith, Decides}
+use Rattle.std.proofs.Common.{◌≡◌, ℕ, ◌≤◌, true, [], ◌∷◌, Option, Some, None, refl, sym, true≢false, arith, Decides}
 use Rattle.cat_tables.proofs.IntervalLemmas.{is_before-down}
 use Rattle.std.specs.Prelude.{max, nat_le}
 use Rattle.std.proofs.lemmas.Bool.{le-leb, and_parts}

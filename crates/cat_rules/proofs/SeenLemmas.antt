@@ -21,7 +21,7 @@ use Rattle.cat_rows.specs.declared.schemas.TableRow.{TableRow}
 use Rattle.cat_rules.specs.First.{FirstBad, Holds}
 use Rattle.cat_rules.specs.Kept.{AtSome}
 use Rattle.cat_rules.specs.Rows.{Names, NamesIf, SomeOf}
-use Rattle.cat_rules.specs.Sight.{AreSeen, HasEarlier, IsSeen, IsSeenWithout, IsUnmatched, LacksOther, MissesOther, SeesWith}
+use Rattle.cat_rules.specs.Sight.{AreSeen, HasEarlier, IsSeen, IsUnmatched, LacksOther, MissesOther, SeesWith}
 use Rattle.cat_rules.proofs.FirstLemmas.{SomeOf_like, first_like}
 
 -- ---- one of some

@@ -3,7 +3,6 @@ use Rattle.std.proofs.Common.{◌≡◌, ℕ, ◌<◌, ◌≤◌, ◌⊎◌, inl
 use Rattle.std.specs.Prelude.{nat_lt, nat_le}
 use Rattle.std.specs.List.{AllByRecursion}
 use Rattle.std.proofs.lemmas.Bool.{and_right, cases_lt, lt-ltb, lt-leb, le-leb, le-ltb, or_parts, and_parts, and_cases, ltb-true, ltb-false, leb-true, leb-false}
-use Rattle.std.proofs.lemmas.Bool.Decides.{nat_tests}
 use Rattle.cat_tables.specs.Table.{RisesByKey}
 use Rattle.cat_tables.specs.Validity.{Validity, is_before, is_visible}
 use Rattle.cat_rows.specs.Keys.{snapshot_key}

@@ -1,9 +1,8 @@
 -- Rule 7, on data files and on the paths of all files.
-use Rattle.std.specs.Prelude.{[], ◌∷◌, ◌≡◌, ◌⊎◌, ◌+◌, ◌*◌, ◌||◌, ◌==◌, ℕ, Bool, true, false, Option, Some, nat_lt, ◌<◌, List, length}
+use Rattle.std.specs.Prelude.{[], ◌∷◌, ◌≡◌, ◌⊎◌, ◌+◌, ◌*◌, ◌||◌, ◌==◌, ℕ, Bool, false, Option, Some, nat_lt, ◌<◌, List, length}
 use Rattle.cat_tables.specs.Table.{IsBelow}
 use Rattle.cat_rows.specs.Keys.{data_file_key, delete_file_key, table_key}
 use Rattle.cat_rows.specs.Tables.{Tables}
-use Rattle.cat_rows.specs.Validities.{data_file_validity, table_validity}
 use Rattle.cat_rows.specs.declared.batch.Key.{Key}
 use Rattle.cat_rows.specs.declared.batch.Key.TheVariants as key
 use Rattle.cat_rows.specs.declared.files.DataFileRow.{DataFileRow}

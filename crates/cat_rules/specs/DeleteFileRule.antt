@@ -1,9 +1,8 @@
 -- Rule 8, on delete files.
-use Rattle.std.specs.Prelude.{◌≡◌, ◌⊎◌, ◌||◌, ◌==◌, Bool, true, false, not, [], ◌∷◌, Option, Some, None, nat_lt}
+use Rattle.std.specs.Prelude.{◌≡◌, ◌⊎◌, ◌||◌, ◌==◌, Bool, false, not, [], ◌∷◌, Option, Some, None, nat_lt}
 use Rattle.cat_tables.specs.Table.{row_of}
 use Rattle.cat_rows.specs.Keys.{data_file_key, delete_file_key}
 use Rattle.cat_rows.specs.Tables.{Tables}
-use Rattle.cat_rows.specs.Validities.{data_file_validity, delete_file_validity}
 use Rattle.cat_rows.specs.declared.batch.Key.{Key}
 use Rattle.cat_rows.specs.declared.batch.Key.TheVariants as key
 use Rattle.cat_rows.specs.declared.files.DataFileRow.{DataFileRow}

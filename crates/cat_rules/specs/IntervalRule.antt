@@ -9,7 +9,7 @@ use Rattle.cat_rows.specs.declared.batch.Key.{Key}
 use Rattle.cat_rows.specs.declared.schemas.ColumnRow.{ColumnRow}
 use Rattle.cat_rules.specs.Places.{of_schema, of_table, of_column, of_data_file, of_delete_file, of_inlined}
 use Rattle.cat_rules.specs.Rows.{SomeOf, Names, NamesIf}
-use Rattle.cat_rules.specs.Kept.{newest, kept_of}
+use Rattle.cat_rules.specs.Kept.{kept_of}
 use Rattle.cat_rules.specs.declared.kept.Kept.{Kept}
 
 -- an end isn't past its begin, or not past the first kept snapshot, or past the newest

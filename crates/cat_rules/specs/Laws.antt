@@ -1,6 +1,9 @@
 -- Rules over what kept snapshots see stay after a batch, where they hold at the new snapshot. Rules on counters stay where
 -- these grow.
 use Rattle.std.specs.Prelude.{◌≡◌, ◌≤◌, ℕ, false, [], ◌∷◌, ◌++◌, Option, Some, None}
+use Rattle.cat_rows.specs.declared.inlined.InlinedRow.{InlinedRow}
+use Rattle.cat_rules.specs.InlinedRule.{HasWrongRowId}
+use Rattle.cat_rules.specs.DataFileRule.{has_row_id_past}
 use Rattle.std.specs.List.{AllByRecursion}
 use Rattle.cat_rows.specs.Batches.{applied}
 use Rattle.cat_rows.specs.Seen.{Seen, seen_at, IsPast}
@@ -35,6 +38,13 @@ Grow (Some old) (Some new) = (old.next_row_id ≤ new.next_row_id) × (old.next_
 
 abbrev pub FieldsStay : Type 0
 FieldsStay = (t u : Tables) (table field : ℕ) → Grow (stats_of_table t table) (stats_of_table u table) → (IsFieldPast t table field → ⊥) → IsFieldPast u table field → ⊥
+
+-- a file whose row ids are below the table's next one, and an inlined row
+abbrev pub RowIdsStay : Type 0
+RowIdsStay = (old new : Option TableStatsRow) (start : Option ℕ) (count : ℕ) → Grow old new → has_row_id_past old start count ≡ false → has_row_id_past new start count ≡ false
+
+abbrev pub InlinedIdsStay : Type 0
+InlinedIdsStay = (t u : Tables) (r : InlinedRow) → Grow (stats_of_table t r.table_id) (stats_of_table u r.table_id) → (HasWrongRowId t r → ⊥) → HasWrongRowId u r → ⊥
 
 abbrev pub CountersStay : Type 0
 CountersStay =

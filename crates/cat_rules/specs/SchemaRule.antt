@@ -2,12 +2,9 @@
 use Rattle.std.specs.Prelude.{◌≡◌}
 use Rattle.cat_rows.specs.Keys.{schema_key}
 use Rattle.cat_rows.specs.Tables.{Tables}
-use Rattle.cat_rows.specs.Validities.{schema_validity}
 use Rattle.cat_rows.specs.declared.batch.Key.{Key}
 use Rattle.cat_rows.specs.declared.schemas.SchemaRow.{SchemaRow}
 use Rattle.cat_rules.specs.Places.{of_schema}
-use Rattle.cat_rules.specs.Rows.{Names}
-use Rattle.cat_rules.specs.Sight.{HasEarlier}
 use Rattle.cat_rows.specs.Seen.{Seen}
 use Rattle.cat_rules.specs.EachKept.{AtKept, NamesAlike}
 

@@ -3,14 +3,11 @@ use Rattle.std.specs.Prelude.{◌≡◌, ◌⊎◌, [], ◌∷◌, Option}
 use Rattle.cat_tables.specs.Table.{row_of}
 use Rattle.cat_rows.specs.Keys.{schema_key, table_key}
 use Rattle.cat_rows.specs.Tables.{Tables}
-use Rattle.cat_rows.specs.Validities.{schema_validity, table_validity}
 use Rattle.cat_rows.specs.declared.batch.Key.{Key}
 use Rattle.cat_rows.specs.declared.batch.Key.TheVariants as key
 use Rattle.cat_rows.specs.declared.schemas.SchemaRow.{SchemaRow}
 use Rattle.cat_rows.specs.declared.schemas.TableRow.{TableRow}
 use Rattle.cat_rules.specs.Places.{of_table}
-use Rattle.cat_rules.specs.Rows.{Names}
-use Rattle.cat_rules.specs.Sight.{IsUnmatched, HasEarlier}
 use Rattle.cat_rows.specs.Seen.{Seen}
 use Rattle.cat_rules.specs.EachKept.{AtKept, NamesAlike, NamesWithout, missing_or_own}
 

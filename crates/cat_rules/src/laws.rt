@@ -4,7 +4,7 @@ ghost use Rattle.std.specs.Prelude.{◌⊎◌};
 ghost use Rattle.cat_rules.specs.ColumnRule.{IsColumnless, IsCrowdedColumn};
 ghost use Rattle.cat_rules.specs.DataFileRule.{IsDataFileUnmatched};
 ghost use Rattle.cat_rules.specs.DeleteFileRule.{IsDeleteFileDiffering, IsDeleteFileUnmatched, IsSecondDeleteFile};
-ghost use Rattle.cat_rules.specs.Laws.{CountersStay, FieldsStay, StaysAfter};
+ghost use Rattle.cat_rules.specs.Laws.{CountersStay, FieldsStay, InlinedIdsStay, RowIdsStay, StaysAfter};
 ghost use Rattle.cat_rules.specs.SchemaRule.{IsSchemaNameUsed};
 ghost use Rattle.cat_rules.specs.TableRule.{IsTableNameUsed, IsTableUnmatched};
 
@@ -20,8 +20,10 @@ pub fn rules_stay()
     ensures second_delete_files { StaysAfter (λ _. IsSecondDeleteFile) }
 {}
 
-/// A field id stays below a counter that grows, and so do the ids of a catalogue whose counters grow up to their last value.
+/// Field ids and row ids stay below counters that grow, and so do the ids of a catalogue whose counters grow up to their last value.
 pub fn counters_stay()
     ensures fields { FieldsStay }
+    ensures row_ids { RowIdsStay }
+    ensures inlined_ids { InlinedIdsStay }
     ensures ids { CountersStay }
 {}

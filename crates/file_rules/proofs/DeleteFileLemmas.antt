@@ -1,5 +1,5 @@
 -- Delete files and their data files, by what each kept snapshot sees of both.
-use Rattle.std.proofs.Common.{◌≡◌, ◌⊎◌, ℕ, inl, inr, Bool, true, false, cond, List, [], ◌∷◌, Option, Some, None, is_none, refl, sym, ap, ◌∙◌, subst, true≢false}
+use Rattle.std.proofs.Common.{◌≡◌, ◌⊎◌, ℕ, inl, inr, Bool, true, false, cond, [], ◌∷◌, Option, Some, None, is_none, refl, sym, ap, ◌∙◌, true≢false}
 use Rattle.cat_tables.specs.Table.{RisesByKey, row_of}
 use Rattle.cat_tables.specs.Validity.{is_visible, visible_at}
 use Rattle.cat_rows.specs.Keys.{data_file_key}
@@ -11,14 +11,14 @@ use Rattle.cat_rows.specs.declared.files.DataFileRow.{DataFileRow}
 use Rattle.cat_rows.specs.declared.files.DeleteFileRow.{DeleteFileRow}
 use Rattle.cat_rows.specs.declared.history.SnapshotRow.{SnapshotRow}
 use Rattle.cat_rules.specs.DeleteFileRule.{IsDeleteFileDiffering, IsDeleteFileUnmatched, IsDeleteFileWrong, data_file_of, differs_from, file_id_of}
-use Rattle.cat_rules.specs.EachKept.{AtKept, missing_or_own}
+use Rattle.cat_rules.specs.EachKept.{missing_or_own}
 use Rattle.cat_rules.specs.First.{FirstBad}
 use Rattle.cat_rules.specs.Kept.{AtSome}
 use Rattle.cat_rules.specs.Places.{of_delete_file}
 use Rattle.cat_rules.specs.Rows.{Names, SomeOf}
 use Rattle.cat_rules.specs.Sight.{IsSeen, IsUnmatched}
 use Rattle.cat_rules.proofs.FirstLemmas.{first_like}
-use Rattle.cat_rules.proofs.SeenLemmas.{at_like, from_at, or_some, row_of-visible, rows_from_seen, rows_to_seen, seen_row, some_or, unmatched-from_seen, unmatched-to_seen}
+use Rattle.cat_rules.proofs.SeenLemmas.{at_like, from_at, or_some, row_of-visible, rows_from_seen, rows_to_seen, seen_row, unmatched-from_seen, unmatched-to_seen}
 
 module _ (t : Tables) (up : RisesByKey data_file_key t.data_file) where
   -- the data file of a delete file, as the snapshot sees it

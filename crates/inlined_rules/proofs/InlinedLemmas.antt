@@ -47,7 +47,6 @@ use Rattle.cat_tables.specs.declared.interval.Interval.{Interval}
 use Rattle.inlined_rules.specs.declared.term_index.TypedTerms.{TypedTerms}
 use Rattle.inlined_rules.specs.declared.terms.Term.{Term}
 use Rattle.inlined_rules.proofs.ClearLemmas.{ascends-filter, begins_before, terms_clear}
-
 use Rattle.cat_rules.proofs.MeetLemmas.{found_table, seen_decides}
 use Rattle.inlined_rules.proofs.TermLemmas.{Precedes, are_met_is, meets, of_from, of_parts}
 

@@ -1,5 +1,5 @@
 -- Inlined rows of one table with one begin, and how many of them a kept snapshot sees with the table.
-use Rattle.std.proofs.Common.{◌≡◌, ℕ, ◌≤◌, Bool, true, ◌&&◌, ◌==◌, List, [], ◌∷◌, count_by, refl, ap₂, Option, Result, is_lt, arith}
+use Rattle.std.proofs.Common.{◌≡◌, ℕ, ◌≤◌, Bool, true, ◌&&◌, List, [], ◌∷◌, count_by, refl, ap₂, Option, Result, arith}
 use Rattle.std.specs.Result.{IfOk}
 use Rattle.std.proofs.lemmas.Bool.{and_from, and_parts}
 use Rattle.std.proofs.lemmas.Result.{IfOk-weaker}

@@ -1,11 +1,10 @@
 -- Of columns that lie within the kept snapshots the intervals tell which are seen with their table.
-use Rattle.std.proofs.Common.{◌≡◌, refl, inl, inr, ⊎_elim, true, List, [], ◌∷◌, Option}
+use Rattle.std.proofs.Common.{◌≡◌, refl, true, Option}
 use Rattle.cat_rules.specs.EachKept.{AtKept}
 use Rattle.cat_rules.specs.Kept.{AtSome}
 use Rattle.cat_rules.specs.Sight.{SeesWith}
 use Rattle.cat_rows.specs.declared.schemas.ColumnRow.{ColumnRow}
 use Rattle.cat_rules.proofs.SeenLemmas.{at_like, from_at, first_with}
-use Rattle.std.specs.List.{AllByRecursion}
 use Rattle.cat_tables.specs.Table.{RisesByKey}
 use Rattle.cat_rows.specs.Keys.{snapshot_key, table_key}
 use Rattle.cat_rows.specs.Tables.{Tables}
@@ -15,7 +14,7 @@ use Rattle.cat_rules.specs.First.{FirstBad, Holds}
 use Rattle.cat_rules.specs.HistoryRule.{IsSnapshotBad}
 use Rattle.cat_rules.specs.IntervalRule.{IsIntervalBad}
 use Rattle.cat_rules.specs.Places.{of_column}
-use Rattle.cat_rules.specs.Rows.{Names, SomeOf}
+use Rattle.cat_rules.specs.Rows.{Names}
 use Rattle.cat_rules.proofs.DatedLemmas.{dated_columns}
 use Rattle.cat_rules.proofs.FirstLemmas.{first_like, some_in}
 use Rattle.cat_rules.proofs.SightLemmas.{IsDated}

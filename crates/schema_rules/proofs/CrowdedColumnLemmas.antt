@@ -1,40 +1,29 @@
 -- Columns that are one too many in their table, or alike there.
-use Rattle.std.proofs.Common.{◌≡◌, ℕ, ◌+◌, ◌<◌, ◌≤◌, Bool, true, false, cond, ◌&&◌, ◌==◌, List, [], ◌∷◌, count_by, refl, sym, ap, ap₂, subst, ◌∙◌, Option, Some, None, Result, is_lt, is_eq, nat_le, nat_lt, max, arith}
+use Rattle.std.proofs.Common.{◌≡◌, ℕ, ◌≤◌, true, ◌&&◌, List, [], ◌∷◌, count_by, refl, ap, Option, None, Result, arith}
 use Rattle.cat_rules.proofs.WithinLemmas.{all_so, count_by-le, count_by-visible, first_found_among, in_group, is_same, is_under_at, same_is}
 use Rattle.cat_rules.specs.EachKept.{AtKept}
 use Rattle.cat_rules.specs.Sight.{SeesWith}
-use Rattle.cat_rules.specs.Lookups.{HasRow, table_of}
+use Rattle.cat_rules.specs.Lookups.{table_of}
 use Rattle.cat_rules.proofs.SeenLemmas.{first_with, some_visible, visible_some}
-use Rattle.std.specs.Prelude.{filter, map}
-use Rattle.cat_tables.proofs.IntervalLemmas.{before_both, both_before}
 use Rattle.std.proofs.lemmas.Bool.{and_parts, and_from}
-use Rattle.std.specs.List.{AllByRecursion}
 use Rattle.std.specs.Result.{IfOk}
-use Rattle.std.proofs.lemmas.Bool.Decides.{nat_tests, Decides-eqb}
-use Rattle.std.proofs.lemmas.Cmp.{nat_list_cmp_total, tied_itself}
 use Rattle.std.proofs.lemmas.Result.{IfOk-weaker}
-use Rattle.cat_tables.specs.Table.{RisesByKey, key_cmp, row_of}
-use Rattle.cat_tables.specs.Validity.{is_before, is_visible, visible_at}
+use Rattle.cat_tables.specs.Table.{RisesByKey}
+use Rattle.cat_tables.specs.Validity.{is_visible, visible_at}
 use Rattle.cat_tables.proofs.KeyLemmas.{key_eq}
 use Rattle.cat_rows.specs.Keys.{snapshot_key, column_key, table_key}
 use Rattle.cat_rows.specs.Tables.{Tables}
 use Rattle.cat_rows.specs.Validities.{column_validity, table_validity}
 use Rattle.cat_rows.specs.declared.batch.Key.{Key}
 use Rattle.cat_rows.specs.declared.schemas.ColumnRow.{ColumnRow}
-use Rattle.cat_rows.specs.declared.schemas.TableRow.{TableRow}
 use Rattle.cat_rules.specs.First.{FirstBad, Holds}
 use Rattle.cat_rules.specs.HistoryRule.{IsMissing}
 use Rattle.cat_rules.specs.Kept.{kept_of, AtSome}
-use Rattle.cat_rows.specs.Places.{place}
 use Rattle.cat_rules.specs.Places.{of_column}
 use Rattle.cat_rules.specs.Rows.{SomeOf, Names}
-use Rattle.cat_rules.proofs.DatedLemmas.{AreDated, found_dated}
-use Rattle.cat_rules.proofs.FirstLemmas.{first_like, SomeOf_like, some_in}
-use Rattle.cat_rules.proofs.SightLemmas.{IsDated, at_kept, from_kept, clip, clip_kept, clip_sees, in_range}
-use Rattle.cat_spans.specs.Spans.{Extent, covers, is_in, is_under}
-use Rattle.cat_spans.proofs.CountLemmas.{count, count_by-is}
+use Rattle.cat_rules.proofs.DatedLemmas.{AreDated}
+use Rattle.cat_rules.proofs.FirstLemmas.{SomeOf_like}
 use Rattle.cat_rules.specs.ColumnRule.{IsAlikeEarlier, IsPastHundred, is_earlier}
-use Rattle.cat_tables.specs.Interval.{sooner_end}
 use Rattle.schema_rules.specs.Groups.{group_by_table}
 use Rattle.cat_rules.specs.Crowded.{IsCrowded, extent_with}
 use Rattle.cat_rules.proofs.EarlierLemmas.{some_counted, counted_some}

@@ -3,7 +3,6 @@ use Rattle.cat_tables.specs.Table.{row_of}
 use Rattle.cat_rows.specs.Keys.{data_file_key, schema_key, table_key}
 use Rattle.cat_rows.specs.Seen.{Seen}
 use Rattle.cat_rows.specs.Tables.{Tables}
-use Rattle.cat_rows.specs.declared.batch.Key.{Key}
 use Rattle.cat_rows.specs.declared.files.DataFileRow.{DataFileRow}
 use Rattle.cat_rows.specs.declared.files.DeleteFileRow.{DeleteFileRow}
 use Rattle.cat_rows.specs.declared.schemas.TableRow.{TableRow}
