@@ -13,6 +13,3 @@ mod writing;
 pub use fault::BadChanges;
 pub use reading::read_changes;
 pub use writing::changes_text;
-
-#[cfg(test)]
-mod tests;

@@ -1,5 +1,6 @@
 -- Where the rules on snapshots and intervals hold, all rows lie within the kept snapshots, and so does what is found among them.
 use Rattle.std.proofs.Common.{◌≡◌, inl, inr, Bool, true, false, cond, List, [], ◌∷◌, Some, refl, subst, ℕ}
+use Rattle.std.proofs.lemmas.Bool.{false_from_ne_true}
 use Rattle.std.specs.List.{AllByRecursion}
 use Rattle.cat_tables.specs.Table.{has_key, row_of}
 use Rattle.cat_tables.specs.Validity.{Validity}
@@ -7,8 +8,9 @@ use Rattle.cat_rows.specs.Tables.{Tables}
 use Rattle.cat_rows.specs.Validities.{schema_validity, table_validity, column_validity, data_file_validity, delete_file_validity, inlined_row_validity}
 use Rattle.cat_rows.specs.declared.batch.Key.{Key}
 use Rattle.cat_rules.specs.First.{Holds}
-use Rattle.cat_rules.specs.History.{IsMissing, IsSnapshotBad}
-use Rattle.cat_rules.specs.Intervals.{IsIntervalBad, IsWronglyDated, is_misdated, kept_of}
+use Rattle.cat_rules.specs.HistoryRule.{IsMissing, IsSnapshotBad}
+use Rattle.cat_rules.specs.IntervalRule.{IsIntervalBad, IsWronglyDated, is_misdated}
+use Rattle.cat_rules.specs.Kept.{kept_of}
 use Rattle.cat_rules.specs.Places.{of_schema, of_table, of_column, of_data_file, of_delete_file, of_inlined}
 use Rattle.cat_rules.specs.Rows.{Names, NamesIf}
 use Rattle.cat_rules.proofs.FirstLemmas.{all_like}
@@ -30,16 +32,12 @@ row_of_all key k P (r ∷ rs) all q e = go (has_key key k r) (row_of_all key k P
     go false more e = more e
 
 -- a rule that no row breaks
-all_fine : {R : Type 0} (name : R → Key) (Bad : R → Type 0) (rows : List R) → Holds (Names name Bad rows) → AllByRecursion (λ r. Bad r → ⊥) rows
+pub all_fine : {R : Type 0} (name : R → Key) (Bad : R → Type 0) (rows : List R) → Holds (Names name Bad rows) → AllByRecursion (λ r. Bad r → ⊥) rows
 all_fine name Bad [] fine = tt
 all_fine name Bad (r ∷ rs) fine = (λ bad. fine (name r) (inl (bad, refl)), all_fine name Bad rs (λ k h. fine k (inr h)))
 
-not_true : (b : Bool) → (b ≡ true → ⊥) → b ≡ false
-not_true true h = absurd (h refl)
-not_true false h = refl
-
 all_dated : {R : Type 0} (t : Tables) (name : R → Key) (v : Validity R) (rows : List R) → Holds (NamesIf name (is_misdated (kept_of t.snapshot) v) rows) → AreDated t v rows
-all_dated t name v rows fine = all_like _ _ (λ r h. not_true (is_misdated (kept_of t.snapshot) v r) h) rows (all_fine name (λ r. is_misdated (kept_of t.snapshot) v r ≡ true) rows fine)
+all_dated t name v rows fine = all_like _ _ (λ r h. false_from_ne_true (is_misdated (kept_of t.snapshot) v r) h) rows (all_fine name (λ r. is_misdated (kept_of t.snapshot) v r ≡ true) rows fine)
 
 module _ (t : Tables) (intervals : Holds (IsIntervalBad t)) where
   pub dated_schemas : AreDated t schema_validity t.schema
@@ -49,7 +47,7 @@ module _ (t : Tables) (intervals : Holds (IsIntervalBad t)) where
   dated_tables = all_dated t of_table table_validity t.table (λ k h. intervals k (inr (inl h)))
 
   pub dated_columns : AreDated t column_validity t.column
-  dated_columns = all_like _ _ (λ r h. not_true (is_misdated (kept_of t.snapshot) column_validity r) (λ e. h (inl e))) t.column (all_fine of_column (IsWronglyDated (kept_of t.snapshot) t.column) t.column (λ k h. intervals k (inr (inr (inl h)))))
+  dated_columns = all_like _ _ (λ r h. false_from_ne_true (is_misdated (kept_of t.snapshot) column_validity r) (λ e. h (inl e))) t.column (all_fine of_column (IsWronglyDated (kept_of t.snapshot) t.column) t.column (λ k h. intervals k (inr (inr (inl h)))))
 
   pub dated_data_files : AreDated t data_file_validity t.data_file
   dated_data_files = all_dated t of_data_file data_file_validity t.data_file (λ k h. intervals k (inr (inr (inr (inl h)))))

@@ -44,6 +44,12 @@ pub SomeOf_along : {X : Type 0} (P Q : X → Type 0) → (xs : List X) → AllBy
 SomeOf_along P Q [] f h = h
 SomeOf_along P Q (x ∷ xs) f h = ⊎_elim (λ p. inl (f.0 p)) (λ p. inr (SomeOf_along P Q xs f.1 p)) h
 
+-- one of rows of which all are so
+pub some_in : {X : Type 0} (D P Q : X → Type 0) (xs : List X) → AllByRecursion D xs → ((x : X) → D x → P x → Q x) → SomeOf P xs → SomeOf Q xs
+some_in D P Q [] all f h = h
+some_in D P Q (x ∷ xs) all f (inl p) = inl (f x all.0 p)
+some_in D P Q (x ∷ xs) all f (inr more) = inr (some_in D P Q xs all.1 f more)
+
 -- ---- rows that rise
 
 pub all_like : {X : Type 0} (P Q : X → Type 0) → ((x : X) → P x → Q x) → (xs : List X) → AllByRecursion P xs → AllByRecursion Q xs
@@ -76,8 +82,6 @@ module _ (P Q : Key → Type 0) where
   -- the same of an answer that is told by an equation
   pub first_or : (a b o : Option Key) → o ≡ sooner a b → FirstBad P a → FirstBad Q b → FirstBad (λ k. P k ⊎ Q k) o
   first_or a b o e p q = subst (FirstBad (λ k. P k ⊎ Q k)) (sym e) (first_either a b p q)
-
--- ---- the first of rows
 
 -- ---- rows that stand in the order of the keys that they name
 

@@ -2,8 +2,7 @@
 use Rattle.std.proofs.Common.{◌≡◌, ℕ, ◌<◌, ◌≤◌, ◌⊎◌, inl, inr, ⊎_elim, Bool, true, false, ◌&&◌, ◌||◌, List, [], ◌∷◌, Option, Some, None, refl, sym, ap, ◌∙◌, subst, true≢false, arith, Decides, max, min}
 use Rattle.std.specs.Prelude.{nat_lt, nat_le}
 use Rattle.std.specs.List.{AllByRecursion}
-use Rattle.std.proofs.lemmas.Bool.{and_right, cases_lt, lt-ltb, lt-leb, le-leb, le-ltb}
-use Rattle.std.proofs.lemmas.Bool.Decides.{nat_tests}
+use Rattle.std.proofs.lemmas.Bool.{and_right, cases_lt, lt-ltb, lt-leb, le-leb, le-ltb, or_parts, and_parts, and_cases, ltb-true, ltb-false, leb-true, leb-false}
 use Rattle.cat_tables.specs.Table.{RisesByKey}
 use Rattle.cat_tables.specs.Validity.{Validity, is_before, is_visible}
 use Rattle.cat_rows.specs.Keys.{snapshot_key}
@@ -11,10 +10,12 @@ use Rattle.cat_rows.specs.Tables.{Tables}
 use Rattle.cat_rows.specs.declared.batch.Key.TheVariants as key
 use Rattle.cat_rows.specs.declared.history.SnapshotRow.{SnapshotRow}
 use Rattle.cat_rules.specs.First.{Holds}
-use Rattle.cat_rules.specs.History.{IsAmong, IsMissing}
-use Rattle.cat_rules.specs.Intervals.{ends_wrong, id_of, is_misdated, kept_of}
-use Rattle.cat_rules.specs.Rows.{AtSome, IsKept, SomeOf, newest}
-use Rattle.cat_rules.specs.Sight.{IsSeen, IsSeenWithout, ends_sooner, outlasts}
+use Rattle.cat_rules.specs.HistoryRule.{IsAmong, IsMissing}
+use Rattle.cat_rules.specs.IntervalRule.{ends_wrong, is_misdated}
+use Rattle.cat_rules.specs.Kept.{id_of, kept_of, AtSome, IsKept, newest}
+use Rattle.cat_rules.specs.Rows.{SomeOf}
+use Rattle.cat_rules.specs.Sight.{IsSeen, IsSeenWithout}
+use Rattle.cat_tables.specs.Interval.{ends_sooner, interval_of, outlasts}
 use Rattle.cat_rules.specs.declared.kept.Kept.{Kept}
 use Rattle.cat_rules.proofs.FirstLemmas.{SomeOf_like}
 use Rattle.cat_rules.proofs.SnapshotLemmas.{above}
@@ -112,40 +113,16 @@ abbrev EndsRight : Kept → ℕ → Option ℕ → Type 0
 EndsRight kept b None = Unit {0}
 EndsRight kept b (Some n) = (b < n) × (kept.first < n) × (n ≤ kept.newest)
 
-or_both : (a b : Bool) → (a || b) ≡ false → (a ≡ false) × (b ≡ false)
-or_both true b h = absurd (true≢false h)
-or_both false b h = (refl, h)
-
-and_both : (a b : Bool) → (a && b) ≡ true → (a ≡ true) × (b ≡ true)
-and_both true b h = (refl, h)
-and_both false b h = absurd (true≢false (sym h))
-
-and_either : (a b : Bool) → (a && b) ≡ false → (a ≡ false) ⊎ (b ≡ false)
-and_either true b h = inr h
-and_either false b h = inl refl
-
-lt_from : (a b : ℕ) → nat_lt a b ≡ true → a < b
-lt_from a b h = grind (arith, nat_tests)
-
-ge_from : (a b : ℕ) → nat_lt a b ≡ false → b ≤ a
-ge_from a b h = grind (arith, nat_tests)
-
-le_from : (a b : ℕ) → nat_le a b ≡ true → a ≤ b
-le_from a b h = grind (arith, nat_tests)
-
-gt_from : (a b : ℕ) → nat_le a b ≡ false → b < a
-gt_from a b h = grind (arith, nat_tests)
-
 ends_right : (kept : Kept) (b : ℕ) (e : Option ℕ) → ends_wrong kept b e ≡ false → EndsRight kept b e
 ends_right kept b None h = tt
 ends_right kept b (Some n) h =
-    let p = or_both (nat_le n b) (nat_le n kept.first || nat_lt kept.newest n) h in
-    let q = or_both (nat_le n kept.first) (nat_lt kept.newest n) p.1 in
-    (gt_from n b p.0, gt_from n kept.first q.0, ge_from kept.newest n q.1)
+    let p = or_parts (nat_le n b) (nat_le n kept.first || nat_lt kept.newest n) h in
+    let q = or_parts (nat_le n kept.first) (nat_lt kept.newest n) p.1 in
+    (leb-false n b p.0, leb-false n kept.first q.0, ltb-false kept.newest n q.1)
 
 open_at : (s : ℕ) (e : Option ℕ) → is_before s e ≡ true → IsOpenAt s e
 open_at s None h = tt
-open_at s (Some n) h = lt_from s n h
+open_at s (Some n) h = ltb-true s n h
 
 before_from : (s : ℕ) (e : Option ℕ) → IsOpenAt s e → is_before s e ≡ true
 before_from s None h = refl
@@ -153,14 +130,14 @@ before_from s (Some n) h = lt-ltb s n h
 
 over_at : (s : ℕ) (e : Option ℕ) → is_before s e ≡ false → IsOverAt s e
 over_at s None h = absurd (true≢false h)
-over_at s (Some n) h = ge_from s n h
+over_at s (Some n) h = ltb-false s n h
 
 max_bounds : (a b : ℕ) → (a ≤ max a b) × (b ≤ max a b) × ((max a b ≡ a) ⊎ (max a b ≡ b))
 max_bounds a b = go (nat_lt a b) refl
   where
     go : (t : Bool) → nat_lt a b ≡ t → (a ≤ max a b) × (b ≤ max a b) × ((max a b ≡ a) ⊎ (max a b ≡ b))
-    go true e = let lt = lt_from a b e in let is : max a b ≡ b = omega arith in (omega arith, omega arith, inr is)
-    go false e = let le = ge_from a b e in let is : max a b ≡ a = omega arith in (omega arith, omega arith, inl is)
+    go true e = let lt = ltb-true a b e in let is : max a b ≡ b = omega arith in (omega arith, omega arith, inr is)
+    go false e = let le = ltb-false a b e in let is : max a b ≡ a = omega arith in (omega arith, omega arith, inl is)
 
 -- ---- rows that lie within the kept snapshots
 
@@ -180,7 +157,7 @@ from_there kept b n = max kept.first (max b n)
 open_there : (kept : Kept) (b n : ℕ) (e : Option ℕ) → EndsRight kept b e → ends_sooner (Some n) e ≡ true → IsOpenAt (from_there kept b n) e
 open_there kept b n None right sooner = tt
 open_there kept b n (Some m) right sooner =
-    let lt = lt_from n m sooner in
+    let lt = ltb-true n m sooner in
     ⊎_elim (λ is. omega (arith, right.1, is)) (λ is. ⊎_elim (λ i. omega (arith, right.0, is, i)) (λ i. omega (arith, lt, is, i)) (max_bounds b n).2) (max_bounds kept.first (max b n)).2
 
 -- the row's interval lies within the kept snapshots
@@ -197,16 +174,16 @@ module _ (t : Tables) (up : RisesByKey snapshot_key t.snapshot) (whole : Holds (
 
   module _ {R : Type 0} (v : Validity R) where
     dated_ends : (r : R) → IsDated t v r → (v.begin r ≤ (kept_of t.snapshot).newest) × EndsRight (kept_of t.snapshot) (v.begin r) (v.end r)
-    dated_ends r h = let p = or_both _ _ h in (ge_from (kept_of t.snapshot).newest (v.begin r) p.0, ends_right (kept_of t.snapshot) (v.begin r) (v.end r) p.1)
+    dated_ends r h = let p = or_parts _ _ h in (ltb-false (kept_of t.snapshot).newest (v.begin r) p.0, ends_right (kept_of t.snapshot) (v.begin r) (v.end r) p.1)
 
     visible_from : (s : ℕ) (r : R) → v.begin r ≤ s → IsOpenAt s (v.end r) → is_visible v s r ≡ true
     visible_from s r begins opens = ap (λ b. b && is_before s (v.end r)) (le-leb (v.begin r) s begins) ∙ before_from s (v.end r) opens
 
     visible_is : (s : ℕ) (r : R) → is_visible v s r ≡ true → (v.begin r ≤ s) × IsOpenAt s (v.end r)
-    visible_is s r h = let p = and_both _ _ h in (le_from (v.begin r) s p.0, open_at s (v.end r) p.1)
+    visible_is s r h = let p = and_parts _ _ h in (leb-true (v.begin r) s p.0, open_at s (v.end r) p.1)
 
     hidden_is : (s : ℕ) (r : R) → is_visible v s r ≡ false → (s < v.begin r) ⊎ IsOverAt s (v.end r)
-    hidden_is s r h = ⊎_elim (λ e. inl (gt_from (v.begin r) s e)) (λ e. inr (over_at s (v.end r) e)) (and_either _ _ h)
+    hidden_is s r h = ⊎_elim (λ e. inl (leb-false (v.begin r) s e)) (λ e. inr (over_at s (v.end r) e)) (and_cases _ _ h)
 
     -- it is seen, at the latest by the newest snapshot
     pub is_seen : (r : R) → IsDated t v r → IsSeen t v r
@@ -226,7 +203,7 @@ module _ (t : Tables) (up : RisesByKey snapshot_key t.snapshot) (whole : Holds (
 
   module _ {R S : Type 0} (v : Validity R) (w : Validity S) where
     -- The row is seen where the other isn't: decided by the two intervals.
-    pub outlasts_is : (r : R) (q : S) → IsDated t v r → IsDated t w q → Decides (outlasts (kept_of t.snapshot).first (v.begin r) (v.end r) (w.begin q) (w.end q)) (IsSeenWithout t v w r q)
+    pub outlasts_is : (r : R) (q : S) → IsDated t v r → IsDated t w q → Decides (outlasts (kept_of t.snapshot).first (interval_of v r) (interval_of w q)) (IsSeenWithout t v w r q)
     outlasts_is r q dr dq = (found, told)
       where
         kept : Kept
@@ -246,7 +223,7 @@ module _ (t : Tables) (up : RisesByKey snapshot_key t.snapshot) (whole : Holds (
             let top : s ≤ kept.newest = ⊎_elim (λ is. omega (arith, some_kept, is)) (λ is. ⊎_elim (λ i. omega (arith, right.0, is, i)) (λ i. omega (arith, ends.2, is, i)) two.2) one.2 in
             at s one.0 top (omega (arith, one.1, two.0)) (open_there kept (v.begin r) n (v.end r) right.1 h) (no_more w s n q e (omega (arith, one.1, two.1)))
 
-        found : outlasts kept.first (v.begin r) (v.end r) (w.begin q) (w.end q) ≡ true → IsSeenWithout t v w r q
+        found : outlasts kept.first (interval_of v r) (interval_of w q) ≡ true → IsSeenWithout t v w r q
         found = go (nat_lt (max kept.first (v.begin r)) (w.begin q)) refl
           where
             go : (b : Bool) → nat_lt (max kept.first (v.begin r)) (w.begin q) ≡ b → (b || ends_sooner (w.end q) (v.end r)) ≡ true → IsSeenWithout t v w r q
@@ -255,14 +232,14 @@ module _ (t : Tables) (up : RisesByKey snapshot_key t.snapshot) (whole : Holds (
                 let s = max kept.first (v.begin r) in
                 let m = max_bounds kept.first (v.begin r) in
                 let top : s ≤ kept.newest = ⊎_elim (λ is. omega (arith, some_kept, is)) (λ is. omega (arith, right.0, is)) m.2 in
-                at s m.0 top m.1 (open_max kept (v.begin r) (v.end r) right.1) (not_yet w s q (lt_from s (w.begin q) e))
+                at s m.0 top m.1 (open_max kept (v.begin r) (v.end r) right.1) (not_yet w s q (ltb-true s (w.begin q) e))
             go false e h = sooner_end (w.end q) refl h
 
         or_true : (a b : Bool) → (a ≡ true) ⊎ (b ≡ true) → (a || b) ≡ true
         or_true true b h = refl
         or_true false b h = ⊎_elim (λ e. absurd (true≢false (sym e))) (λ e. e) h
 
-        told : IsSeenWithout t v w r q → outlasts kept.first (v.begin r) (v.end r) (w.begin q) (w.end q) ≡ true
+        told : IsSeenWithout t v w r q → outlasts kept.first (interval_of v r) (interval_of w q) ≡ true
         told seen =
             let some = from_kept t (λ s. (is_visible v s r ≡ true) × (is_visible w s q ≡ false)) seen in
             let s = some.0 in

@@ -3,9 +3,11 @@ ghost use Rattle.cat_rows.specs.Validities as validities;
 ghost use Rattle.cat_rules.specs.Places as places;
 
 use cat_rows::{ColumnRow, DataFileRow, DeleteFileRow, InlinedRow, Key, SchemaRow, TableRow};
+use cat_tables::Interval;
 
 /// A row with a validity interval, whose key can be told.
 pub trait Dated {
+    ghost use Rattle.cat_tables.specs.Interval.{interval_of};
     ghost use Rattle.cat_tables.specs.Validity.{Validity};
     ghost use Rattle.cat_rows.specs.declared.batch.Key.{Key};
 
@@ -13,11 +15,8 @@ pub trait Dated {
 
     ghost name: { Self → Key };
 
-    fn begin(&self) -> u64
-        ensures { result ≡ validity.begin self.now };
-
-    fn end(&self) -> Option<u64>
-        ensures { result ≡ validity.end self.now };
+    fn interval(&self) -> Interval
+        ensures { result ≡ interval_of validity self.now };
 
     fn key(&self) -> Key
         ensures { result ≡ name self.now };
@@ -28,12 +27,11 @@ impl Dated for SchemaRow {
 
     ghost name = { places.of_schema };
 
-    fn begin(&self) -> u64 {
-        self.begin_snapshot
-    }
-
-    fn end(&self) -> Option<u64> {
-        self.end_snapshot
+    fn interval(&self) -> Interval {
+        Interval {
+            begin: self.begin_snapshot,
+            end: self.end_snapshot,
+        }
     }
 
     fn key(&self) -> Key {
@@ -46,12 +44,11 @@ impl Dated for TableRow {
 
     ghost name = { places.of_table };
 
-    fn begin(&self) -> u64 {
-        self.begin_snapshot
-    }
-
-    fn end(&self) -> Option<u64> {
-        self.end_snapshot
+    fn interval(&self) -> Interval {
+        Interval {
+            begin: self.begin_snapshot,
+            end: self.end_snapshot,
+        }
     }
 
     fn key(&self) -> Key {
@@ -64,12 +61,11 @@ impl Dated for ColumnRow {
 
     ghost name = { places.of_column };
 
-    fn begin(&self) -> u64 {
-        self.begin_snapshot
-    }
-
-    fn end(&self) -> Option<u64> {
-        self.end_snapshot
+    fn interval(&self) -> Interval {
+        Interval {
+            begin: self.begin_snapshot,
+            end: self.end_snapshot,
+        }
     }
 
     fn key(&self) -> Key {
@@ -82,12 +78,11 @@ impl Dated for DataFileRow {
 
     ghost name = { places.of_data_file };
 
-    fn begin(&self) -> u64 {
-        self.begin_snapshot
-    }
-
-    fn end(&self) -> Option<u64> {
-        self.end_snapshot
+    fn interval(&self) -> Interval {
+        Interval {
+            begin: self.begin_snapshot,
+            end: self.end_snapshot,
+        }
     }
 
     fn key(&self) -> Key {
@@ -100,12 +95,11 @@ impl Dated for DeleteFileRow {
 
     ghost name = { places.of_delete_file };
 
-    fn begin(&self) -> u64 {
-        self.begin_snapshot
-    }
-
-    fn end(&self) -> Option<u64> {
-        self.end_snapshot
+    fn interval(&self) -> Interval {
+        Interval {
+            begin: self.begin_snapshot,
+            end: self.end_snapshot,
+        }
     }
 
     fn key(&self) -> Key {
@@ -118,12 +112,11 @@ impl Dated for InlinedRow {
 
     ghost name = { places.of_inlined };
 
-    fn begin(&self) -> u64 {
-        self.begin_snapshot
-    }
-
-    fn end(&self) -> Option<u64> {
-        self.end_snapshot
+    fn interval(&self) -> Interval {
+        Interval {
+            begin: self.begin_snapshot,
+            end: self.end_snapshot,
+        }
     }
 
     fn key(&self) -> Key {

@@ -1,33 +1,30 @@
-//! The first row that breaks a rule of a sane catalogue, for the rules about the layout, snapshots, intervals and
-//! counters, and what the rules of the other crates share.
+//! What the twelve rules of a sane catalogue say (in specs/), and the tests that they share: the first row of a table that
+//! is bad by itself, that is one too many in its group, or that refers to a row that isn't seen with it.
 #![tactic(auto)]
 
 mod bad_row;
 mod checked;
-mod column_stats_rule;
+mod crowded;
 mod dated;
-mod history_rule;
-mod id_rule;
-mod interval_rule;
 mod kept;
-mod layout_rule;
+pub mod laws;
+mod limits;
 mod lookup;
+mod meeting;
 mod order;
 mod readable;
+mod refer;
 mod rule;
-mod stats_rule;
 
 pub use bad_row::BadRow;
 pub use checked::{CheckedRule, first_checked};
-pub use column_stats_rule::{first_bad_column_stats, is_field_past};
+pub use crowded::{Grouped, first_bare, first_crowded, span_with_table};
 pub use dated::Dated;
-pub use history_rule::first_bad_snapshot;
-pub use id_rule::first_bad_id;
-pub use interval_rule::first_bad_interval;
-pub use kept::{Kept, kept_of, newest_of};
-pub use layout_rule::first_bad_layout;
-pub use lookup::{newest_row, rows_of_column};
+pub use kept::{Kept, first_kept, kept_of, newest_of};
+pub use limits::{MAX_COUNTER, MAX_FIELD_ID};
+pub use lookup::{is_field_past, newest_row, rows_of_column};
+pub use meeting::meets_table;
 pub use order::sooner;
 pub use readable::{is_unreadable, type_of};
+pub use refer::{Refers, first_unmatched};
 pub use rule::{RowRule, first_bad};
-pub use stats_rule::first_bad_stats;

@@ -1,12 +1,15 @@
 ghost use Rattle.std.specs.Prelude.{◌≡◌, ◌≤◌, ◌-◌, [], ◌∷◌, drop, filter, length, not, take};
+ghost use Rattle.std.specs.Bool.{Decides};
 ghost use Rattle.std.specs.List.{prefix_len};
 ghost use Rattle.std.specs.Option.{option_copied};
 ghost use Rattle.std.specs.Ordering.{is_gt, is_lt};
 ghost use Rattle.cat_tables.specs.Table.{RisesByKey, has_key, key_cmp};
+ghost use Rattle.cat_rows.specs.Batches.{tables_of};
 ghost use Rattle.cat_rows.specs.Keys.{column_key};
 ghost use Rattle.cat_rules.specs.Lookups as spec;
 
-use cat_rows::ColumnRow;
+use cat_rows::{CatRows, ColumnRow};
+use cat_tables::find_row;
 use std::cmp::Ordering;
 
 /// How a row's column, known by its table and field id, stands to another one.
@@ -60,4 +63,14 @@ pub fn newest_row(rows: &[ColumnRow], table: u64, column: u64) -> Option<&Column
     ensures { option_copied result ≡ spec.newest_row table column rows.now }
 {
     rows_of_column(rows, table, column).last()
+}
+
+/// Whether a table has statistics, and its next field id isn't past this one.
+pub fn is_field_past(rows: &CatRows, table: u64, field: u64) -> bool
+    ensures { Decides result (spec.IsFieldPast (tables_of rows.now) table field) }
+{
+    match find_row(rows.table_stats(), &table) {
+        Some(stats) => stats.next_field_id <= field,
+        None => false,
+    }
 }

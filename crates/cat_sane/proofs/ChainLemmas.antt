@@ -5,7 +5,7 @@ use Rattle.cat_rows.specs.declared.batch.Key.{Key}
 use Rattle.cat_rules.specs.First.{FirstBad}
 use Rattle.cat_rules.specs.Named.{Tells}
 use Rattle.cat_rules.specs.declared.bad_row.BadRow.{BadRow}
-use Rattle.cat_sane.specs.Sane.{Then}
+use Rattle.cat_rules.specs.Sane.{Then}
 
 module _ {E : Type 0} (rule : ℕ) (Bad : Key → Type 0) (Later : Option BadRow → Type 0) where
   pub told_here : (k : Key) (r : Result (Option BadRow) E) → FirstBad Bad (Some k) → IfOk r (λ told. IsSomeAnd told (λ b. Tells b rule k)) → IfOk r (Then rule Bad Later)

@@ -1,22 +1,20 @@
 ghost use Rattle.std.specs.Prelude.{IfOk, IsSomeAnd};
 ghost use Rattle.cat_rows.specs.Batches.{tables_of};
 ghost use Rattle.cat_rules.specs.First.{Holds};
-ghost use Rattle.cat_rules.specs.History.{IsSnapshotBad};
-ghost use Rattle.cat_rules.specs.Intervals.{IsIntervalBad};
+ghost use Rattle.cat_rules.specs.HistoryRule.{IsSnapshotBad};
+ghost use Rattle.cat_rules.specs.IntervalRule.{IsIntervalBad};
 ghost use Rattle.cat_rules.specs.Named.{Tells};
-ghost use Rattle.cat_sane.specs.Sane as spec;
+ghost use Rattle.cat_rules.specs.Sane as spec;
 
-use crate::joined::{
-    first_bad_columns, first_bad_data_file, first_bad_delete_file, first_bad_history,
-    first_bad_inlined, first_bad_table,
-};
-use cat_name_rules::first_used_schema_name;
 use cat_rows::{CatRows, Key};
-use cat_rules::{
-    BadRow, first_bad_column_stats, first_bad_id, first_bad_interval, first_bad_layout,
-    first_bad_stats,
+use cat_rules::BadRow;
+use file_rules::{
+    first_bad_column_stats, first_bad_data_file, first_bad_delete_file, first_bad_stats,
 };
+use history_rules::{first_bad_history, first_bad_id, first_bad_interval, first_bad_layout};
+use inlined_rules::first_bad_inlined;
 use lake_types::NoMemory;
+use schema_rules::{first_bad_column, first_bad_schema, first_bad_table};
 use std::alloc::Global;
 
 fn told(alloc: Global, key: &Key, rule: u8) -> Result<Option<BadRow>, NoMemory>
@@ -99,7 +97,7 @@ fn from_columns(alloc: Global, rows: &CatRows) -> Result<Option<BadRow>, NoMemor
     requires intervals { Holds (IsIntervalBad (tables_of rows.now)) }
     ensures { IfOk result (spec.FromColumns (tables_of rows.now)) }
 {
-    match first_bad_columns(alloc, rows)? {
+    match first_bad_column(alloc, rows)? {
         Some(key) => told(alloc, &key, 6),
         None => from_data_files(alloc, rows),
     }
@@ -123,7 +121,7 @@ fn from_schemas(alloc: Global, rows: &CatRows) -> Result<Option<BadRow>, NoMemor
     requires intervals { Holds (IsIntervalBad (tables_of rows.now)) }
     ensures { IfOk result (spec.FromSchemas (tables_of rows.now)) }
 {
-    match first_used_schema_name(alloc, rows)? {
+    match first_bad_schema(alloc, rows)? {
         Some(key) => told(alloc, &key, 4),
         None => from_tables(alloc, rows),
     }

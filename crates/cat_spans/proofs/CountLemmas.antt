@@ -1,5 +1,6 @@
 -- How many begins and how many stops stand up to a point, and what that says of how deep spans lie there.
 use Rattle.std.proofs.Common.{◌≡◌, ℕ, zero, suc, ◌+◌, ◌<◌, ◌≤◌, ◌⊎◌, inl, inr, Bool, true, false, cond, not, ◌&&◌, List, [], ◌∷◌, length, length-drop, get_or, map, drop, count_by, max, refl, sym, ap, subst, ◌∙◌, Option, Some, None, Ordering, Less, Equal, Greater, is_eq, arith, nat_le}
+use Rattle.std.proofs.lemmas.Bool.{and_parts}
 use Rattle.std.specs.Bool.{MatchBool}
 use Rattle.std.specs.List.{AllByRecursion, All}
 use Rattle.std.specs.Option.{option_map}
@@ -35,10 +36,6 @@ upto_many m = count (λ p. is_upto p m)
 
 -- ---- points that stand up to one another, and points that ascend
 
-and_true : (a b : Bool) → (a && b) ≡ true → (a ≡ true) × (b ≡ true)
-and_true true b h = (refl, h)
-and_true false b h = absurd cc
-
 pub step_le : (a b : Bool) (m n : ℕ) → (b ≡ true → a ≡ true) → m ≤ n → cond b 1 0 + m ≤ cond a 1 0 + n
 step_le true true m n f le = omega arith
 step_le true false m n f le = omega arith
@@ -49,7 +46,7 @@ upto_many-le : (m : Point) (ps qs : List Point) → are_upto ps qs ≡ true → 
 upto_many-le m ps [] up le = omega arith
 upto_many-le m [] (q ∷ qs) up le = absurd (omega arith)
 upto_many-le m (p ∷ ps) (q ∷ qs) up le =
-    let both = and_true (is_upto p q) (are_upto ps qs) up in
+    let both = and_parts (is_upto p q) (are_upto ps qs) up in
     step_le (is_upto p m) (is_upto q m) _ _ (λ h. is_upto-trans p q m both.0 h) (upto_many-le m ps qs both.1 (omega arith))
 
 upto_many-drop : (m : Point) (n : ℕ) (qs : List Point) → upto_many m qs ≤ n + upto_many m (drop n qs)

@@ -1,5 +1,6 @@
 -- From a number that spans of a group cover up to the next stop in the group, each number is covered.
 use Rattle.std.proofs.Common.{◌≡◌, ℕ, zero, suc, ◌+◌, ◌<◌, ◌≤◌, Bool, true, false, cond, not, ◌&&◌, List, [], ◌∷◌, length, get_or, map, refl, sym, ap, ap₂, subst, ◌∙◌, Option, Some, None, Ordering, Less, Equal, Greater, is_eq, max, nat_le, nat_lt, arith}
+use Rattle.std.proofs.lemmas.Bool.{and_parts}
 use Rattle.std.specs.List.{AllByRecursion, slice_get}
 use Rattle.std.specs.List.Sorted.{IsPartitionPoint, IsPartitionedBy}
 use Rattle.std.specs.Option.{option_map}
@@ -109,10 +110,6 @@ counted_place p (x ∷ xs) le = go (p x) refl le (counted_place p xs)
 
 -- ---- the next stop of a group
 
-and_true : (a b : Bool) → (a && b) ≡ true → (a ≡ true) × (b ≡ true)
-and_true true b h = (refl, h)
-and_true false b h = absurd cc
-
 -- what stands past a number of a group and up to a point of it lies in the group
 group_between : (g : List ℕ) (s : ℕ) (p q : Point) → is_upto p (point_at g s) ≡ false → is_upto p q ≡ true → q.group ≡ g → p.group ≡ g
 group_between g s p q past upto same = go (key_cmp p.group g) refl
@@ -130,14 +127,14 @@ is_stop_past g s p = is_eq (key_cmp p.group g) && not (is_upto p (point_at g s))
 stop_past : (g : List ℕ) (s : ℕ) (x : Extent) → (is_in g x && covers s x) ≡ true → is_stop_past g s (stop_of x) ≡ true
 unfolding is_stop_past
 stop_past g s x h =
-    let both = and_true _ _ h in
+    let both = and_parts _ _ h in
     let e : is_upto (stop_of x) (point_at g s) ≡ false = go x.end (key_eq x.group g both.0) both.1 in
     rw (both.0, e) refl
   where
     go : (end : Option ℕ) → x.group ≡ g → (nat_le x.begin s && is_before s end) ≡ true → not (is_gt (ordering_then (key_cmp x.group g) (number_cmp (option_map (max x.begin) end) (Some s)))) ≡ false
     go None same c = ap (λ o. not (is_gt (ordering_then o Greater))) (ap (λ k. key_cmp k g) same ∙ tied_itself nat_list_cmp_total g)
     go (Some n) same c =
-        let lt : nat_lt s n ≡ true = (and_true _ _ c).1 in
+        let lt : nat_lt s n ≡ true = (and_parts _ _ c).1 in
         let past : nat_cmp (max x.begin n) s ≡ Greater = grind (arith, nat_tests) in
         ap (λ o. not (is_gt (ordering_then (key_cmp x.group g) o))) past ∙ ap (λ o. not (is_gt (ordering_then o Greater))) (ap (λ k. key_cmp k g) same ∙ tied_itself nat_list_cmp_total g)
 
@@ -168,7 +165,7 @@ module _ (others : List Extent) (bs ss : List Point) (marks : AreMarksOf others 
       let permuted : count (is_stop_past g s) ss ≡ count (is_stop_past g s) (map stop_of others) =
       sym (count_by-is (is_stop_past g s) ss) ∙ sum_by-IsPermutation (λ p. cond (is_stop_past g s p) 1 0) (map stop_of others) ss marks.1.same ∙ count_by-is (is_stop_past g s) (map stop_of others) in
       let found = counted_place (is_stop_past g s) ss (omega arith) in
-      let both = and_true (is_eq (key_cmp found.1.group g)) (not (is_upto found.1 (point_at g s))) found.3 in
+      let both = and_parts (is_eq (key_cmp found.1.group g)) (not (is_upto found.1 (point_at g s))) found.3 in
       (found.0, found.1, found.2, key_eq found.1.group g both.0, was_false (is_upto found.1 (point_at g s)) both.1)
     where
       was_false : (b : Bool) → not b ≡ true → b ≡ false
@@ -268,11 +265,11 @@ slice_get-map f (x ∷ xs) (suc i) d lt = slice_get-map f xs i d (omega arith)
 
 -- a span covers each number between its begin and one that it covers
 pub covers_before : (k n : ℕ) (x : Extent) → x.begin ≤ k → k ≤ n → covers n x ≡ true → covers k x ≡ true
-covers_before k n x low le h = go x.end (and_true _ _ h).1
+covers_before k n x low le h = go x.end (and_parts _ _ h).1
   where
     go : (end : Option ℕ) → is_before n end ≡ true → (nat_le x.begin k && is_before k end) ≡ true
     go None before = grind (arith, nat_tests)
     go (Some m) before = grind (arith, nat_tests)
 
 pub begins_upto : (k : ℕ) (x : Extent) → covers k x ≡ true → x.begin ≤ k
-begins_upto k x h = let low : nat_le x.begin k ≡ true = (and_true _ _ h).0 in grind (arith, nat_tests)
+begins_upto k x h = let low : nat_le x.begin k ≡ true = (and_parts _ _ h).0 in grind (arith, nat_tests)

@@ -1,5 +1,6 @@
 -- The order of points, and what a sort by it gives.
 use Rattle.std.proofs.Common.{◌≡◌, ℕ, suc, ◌<◌, ◌≤◌, Bool, true, false, not, List, [], ◌∷◌, length, get_or, map, refl, sym, ap, ◌∙◌, Option, Some, None, Ordering, Less, Equal, Greater, is_lt, arith}
+use Rattle.std.proofs.lemmas.Bool.{not-true}
 use Rattle.std.specs.Cmp.{IsTotalOrder}
 use Rattle.std.specs.List.{AllByRecursion}
 use Rattle.std.specs.List.Sorted.{IsSorted}
@@ -38,15 +39,11 @@ point_cmp_total = then_total (on_total (λ (p : Point). p.group) nat_list_cmp_to
 
 -- ---- standing at a point or before it
 
-not_true : (b : Bool) → not b ≡ true → b ≡ false
-not_true true h = absurd cc
-not_true false h = refl
-
 pub is_upto-refl : (p : Point) → is_upto p p ≡ true
 is_upto-refl p = ap (λ o. not (is_gt o)) (tied_itself point_cmp_total p)
 
 pub is_upto-trans : (p q r : Point) → is_upto p q ≡ true → is_upto q r ≡ true → is_upto p r ≡ true
-is_upto-trans p q r h k = ap not (upto point_cmp_total p q r (not_true _ h) (not_true _ k))
+is_upto-trans p q r h k = ap not (upto point_cmp_total p q r (not-true _ h) (not-true _ k))
 
 -- what doesn't stand up to a point stands past it
 pub is_upto-back : (p q : Point) → is_lt (point_cmp q p) ≡ false → is_upto p q ≡ true

@@ -6,8 +6,6 @@ mod gaps;
 mod limits;
 mod marks;
 mod span;
-#[cfg(test)]
-mod tests;
 
 pub use gaps::first_gap;
 pub use limits::first_past;

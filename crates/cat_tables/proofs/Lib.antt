@@ -6,3 +6,4 @@ pub mod FrameLemmas
 pub mod NowLemmas
 pub mod SightLemmas
 pub mod TellsLemmas
+pub mod IntervalLemmas

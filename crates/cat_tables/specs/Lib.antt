@@ -1,3 +1,4 @@
 pub mod Table
 pub mod Validity
+pub mod Interval
 pub mod Laws

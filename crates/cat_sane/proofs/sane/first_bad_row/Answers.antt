@@ -2,8 +2,8 @@ use Rattle.std.proofs.Common.{Option, subst}
 use Rattle.cat_rows.specs.Batches.{tables_of}
 use Rattle.cat_rows.specs.declared.batch.Key.{Key}
 use Rattle.cat_rules.specs.First.{FirstBad}
-use Rattle.cat_rules.specs.History.{IsLayoutBad}
-use Rattle.cat_sane.specs.Sane.{FromHistory}
+use Rattle.cat_rules.specs.LayoutRule.{IsLayoutBad}
+use Rattle.cat_rules.specs.Sane.{FromHistory}
 use Rattle.cat_sane.proofs.ChainLemmas.{told_here, told_later}
 use Rattle.cat_sane.proofs.sane.first_bad_row.Goals as goal
 

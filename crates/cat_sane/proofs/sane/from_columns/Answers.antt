@@ -2,7 +2,8 @@ use Rattle.std.proofs.Common.{Option, subst}
 use Rattle.cat_rows.specs.Batches.{tables_of}
 use Rattle.cat_rows.specs.declared.batch.Key.{Key}
 use Rattle.cat_rules.specs.First.{FirstBad}
-use Rattle.cat_sane.specs.Sane.{AreColumnsBad, FromDataFiles}
+use Rattle.cat_rules.specs.ColumnRule.{AreColumnsBad}
+use Rattle.cat_rules.specs.Sane.{FromDataFiles}
 use Rattle.cat_sane.proofs.ChainLemmas.{told_here, told_later}
 use Rattle.cat_sane.proofs.sane.from_columns.Goals as goal
 

@@ -2,7 +2,8 @@ use Rattle.std.proofs.Common.{Option, subst}
 use Rattle.cat_rows.specs.Batches.{tables_of}
 use Rattle.cat_rows.specs.declared.batch.Key.{Key}
 use Rattle.cat_rules.specs.First.{FirstBad}
-use Rattle.cat_sane.specs.Sane.{IsDataFileBad, FromDeleteFiles}
+use Rattle.cat_rules.specs.DataFileRule.{IsDataFileBad}
+use Rattle.cat_rules.specs.Sane.{FromDeleteFiles}
 use Rattle.cat_sane.proofs.ChainLemmas.{told_here, told_later}
 use Rattle.cat_sane.proofs.sane.from_data_files.Goals as goal
 

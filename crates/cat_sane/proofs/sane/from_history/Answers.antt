@@ -2,7 +2,8 @@ use Rattle.std.proofs.Common.{Option, inl, subst}
 use Rattle.cat_rows.specs.Batches.{tables_of}
 use Rattle.cat_rows.specs.declared.batch.Key.{Key}
 use Rattle.cat_rules.specs.First.{FirstBad}
-use Rattle.cat_sane.specs.Sane.{FromIntervals, IsHistoryBad}
+use Rattle.cat_rules.specs.Sane.{FromIntervals}
+use Rattle.cat_rules.specs.HistoryRule.{IsHistoryBad}
 use Rattle.cat_sane.proofs.ChainLemmas.{told_here, told_later}
 use Rattle.cat_sane.proofs.sane.from_history.Goals as goal
 

@@ -2,8 +2,8 @@ use Rattle.std.proofs.Common.{Option, subst}
 use Rattle.cat_rows.specs.Batches.{tables_of}
 use Rattle.cat_rows.specs.declared.batch.Key.{Key}
 use Rattle.cat_rules.specs.First.{FirstBad}
-use Rattle.cat_rules.specs.Intervals.{IsIntervalBad}
-use Rattle.cat_sane.specs.Sane.{FromSchemas}
+use Rattle.cat_rules.specs.IntervalRule.{IsIntervalBad}
+use Rattle.cat_rules.specs.Sane.{FromSchemas}
 use Rattle.cat_sane.proofs.ChainLemmas.{told_here, told_later}
 use Rattle.cat_sane.proofs.sane.from_intervals.Goals as goal
 

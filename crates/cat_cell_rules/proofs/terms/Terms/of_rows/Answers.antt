@@ -1,5 +1,0 @@
-use Rattle.cat_cell_rules.proofs.ClearLemmas.{terms_rise}
-use Rattle.cat_cell_rules.proofs.terms.Terms.of_rows.Goals as goal
-
-pub invariant_of-result : goal.invariant_of-result
-invariant_of-result c = rw c.in_ok-items.ensures (terms_rise c.args.rows.now c.requires)

@@ -1,4 +1,0 @@
-pub mod Columns
-pub mod Crowded
-pub mod Earlier
-pub mod Inlined

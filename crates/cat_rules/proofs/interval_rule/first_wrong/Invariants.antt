@@ -1,8 +1,0 @@
--- The first wrong row is still to come.
-use Rattle.std.proofs.Common.{◌≡◌, None, drop}
-use Rattle.std.specs.Option.{option_copied}
-use Rattle.cat_rules.proofs.ColumnLemmas.{wrong_from}
-use Rattle.cat_rules.proofs.interval_rule.first_wrong.Given as goal
-
-abbrev pub invariant-loop-row : goal.invariant-loop-row
-invariant-loop-row l = wrong_from l.kept (option_copied l.last) (drop l.row-index l.rows) ≡ wrong_from l.kept None l.rows

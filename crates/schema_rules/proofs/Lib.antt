@@ -1,0 +1,4 @@
+pub mod CrowdedColumnLemmas
+pub mod ColumnlessLemmas
+pub mod ColumnLemmas
+pub mod DefaultLemmas
