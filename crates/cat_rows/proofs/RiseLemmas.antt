@@ -3,17 +3,13 @@ use Rattle.std.proofs.Common.{◌≡◌, ℕ, zero, suc, ◌<◌, Bool, true, fa
 use Rattle.std.specs.List.{AllByRecursion}
 use Rattle.std.specs.List.Sorted.{IsBinarySearchResult, IsSearchInRange}
 use Rattle.std.specs.Ordering.{ordering_reverse}
-use Rattle.std.proofs.lemmas.Bool.{cases_Bool}
+use Rattle.std.proofs.lemmas.Bool.{and_parts, cases_Bool}
 use Rattle.std.proofs.lemmas.Cmp.{nat_list_cmp_total}
 use Rattle.cat_tables.specs.Table.{key_cmp, RisesByKey, LacksKey}
 use Rattle.cat_tables.proofs.PlaceLemmas.{less_is, IsNonDecreasingBy-rises, LacksKey-between}
 use Rattle.cat_rows.specs.Places.{place}
 use Rattle.cat_rows.specs.Steps.{has_place, all_differ, rises}
 use Rattle.cat_rows.specs.declared.batch.Key.{Key}
-
-both_true : (a b : Bool) → (a && b) ≡ true → (a ≡ true) × (b ≡ true)
-both_true true b h = (refl, h)
-both_true false b h = cc
 
 module _ {X : Type 0} (key_in : X → Key) where
   abbrev pub key_place : X → List ℕ
@@ -28,7 +24,7 @@ module _ {X : Type 0} (key_in : X → Key) where
   rises_by_key [] h = tt
   rises_by_key (x ∷ []) h = (tt, tt)
   rises_by_key (x ∷ y ∷ xs) h =
-      let parts_of = both_true (is_lt (key_cmp (key_place x) (key_place y))) (rises key_in (y ∷ xs)) h in
+      let parts_of = and_parts (is_lt (key_cmp (key_place x) (key_place y))) (rises key_in (y ∷ xs)) h in
       let below = less_is (key_cmp (key_place x) (key_place y)) parts_of.0 in
       let rest = rises_by_key (y ∷ xs) parts_of.1 in
       ((below, all_past (key_place x) (key_place y) xs below rest.0), rest)

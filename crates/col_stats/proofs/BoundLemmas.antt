@@ -1,6 +1,6 @@
 -- The least and the greatest of values, cell by cell and of two lists.
 use Rattle.std.proofs.Common.{◌≡◌, ℕ, suc, ◌+◌, ◌≤◌, List, [], ◌∷◌, ◌++◌, length, Option, Some, None, Bool, true, false, not, ◌||◌, cond, get_or, IfSome, length-append, inl, inr, refl, sym, ap, ◌∙◌, append_assoc, arith}
-use Rattle.std.proofs.lemmas.Bool.{cases_Bool}
+use Rattle.std.proofs.lemmas.Bool.{or_parts, cases_Bool}
 use Rattle.std.proofs.lemmas.List.Sums.{length-filter, sum_by-append}
 use Rattle.std.proofs.lemmas.List.Filters.{length-filter_both}
 use Rattle.std.specs.Prelude.{◌⊎◌, fold}
@@ -255,17 +255,12 @@ bound_of : (s : Side) (vs : List Value) (b : Option Value) → HasOutermost s vs
 bound_of s vs None h k = inl h
 bound_of s vs (Some v) h k = (h, k)
 
-neither : (a b : Bool) → (a || b) ≡ false → (a ≡ false) × (b ≡ false)
-neither false false h = (refl, refl)
-neither true b h = absurd (cc h)
-neither false true h = absurd (cc h)
-
 both_bound : (s : Side) (ty : ColType) (cells others : List Value) (a b : ColStats) (x y z : Option Value) → All (Fits ty) cells → All (Fits ty) others
     → a.rows ≡ length cells → a.nulls ≡ count_by is_null cells → b.rows ≡ length others → b.nulls ≡ count_by is_null others
     → HasBound s (values cells) x → HasBound s (values others) y → z ≡ merged s (withholds a x || withholds b y) x y
     → (withholds a x || withholds b y) ≡ false → HasBound s (values (cells ++ others)) z
 both_bound s ty cells others a b x y z fit fits ar an br bn h k e w =
-    let parts = neither (withholds a x) (withholds b y) w in
+    let parts = or_parts (withholds a x) (withholds b y) w in
     let one = told s cells a x ar an h parts.0 in
     let two = told s others b y br bn k parts.1 in
     let outermost = outer_bounds s ty (values cells) (values others) x y (values_are ty cells fit) (values_are ty others fits) one.0 two.0 in

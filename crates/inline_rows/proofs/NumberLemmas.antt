@@ -6,6 +6,7 @@ use Rattle.std.proofs.Math.Seq.{take-append_seam, drop-append_seam}
 use Rattle.std.proofs.lemmas.Bool.{cases_Bool, cases_lt, le-ltb, lt-ltb}
 use Rattle.std.proofs.lemmas.Bool.Decides.{nat_tests}
 use Rattle.std.proofs.Math.Nat.{pow-succ', one-le-pow}
+use Rattle.thrift_compact.proofs.WriterLemmas.{from_zigzag-to_zigzag, to_zigzag-from_zigzag}
 use Rattle.thrift_compact.specs.Shortest.{number_spelling, unsigned_spelling, signed_spelling, to_zigzag, binary_spelling}
 use Rattle.thrift_compact.specs.Spelling.{from_zigzag}
 use Rattle.inline_rows.specs.Reading.{Item, ◌>>=◌, number_in, unsigned_in, signed_in, split_in, binary_in}
@@ -31,13 +32,6 @@ number_back (suc m) n rest lt =
 pub unsigned_back : (limit n : ℕ) (rest : List ℕ) → n < limit → limit ≤ 2 ^ 64 → unsigned_in limit (unsigned_spelling n ++ rest) ≡ Some (n, rest)
 unfolding unsigned_in
 unsigned_back limit n rest lt le = rw (number_back 9 n rest (omega arith), lt-ltb n limit lt) refl
-
-from_zigzag-to_zigzag : (z : ℤ) → from_zigzag (to_zigzag z) ≡ z
-from_zigzag-to_zigzag (pos n) = grind (arith)
-from_zigzag-to_zigzag (negsuc n) = grind (arith)
-
-to_zigzag-from_zigzag : (n : ℕ) → to_zigzag (from_zigzag n) ≡ n
-to_zigzag-from_zigzag n = grind (arith)
 
 pub signed_back : (limit : ℕ) (z : ℤ) (rest : List ℕ) → to_zigzag z < limit → limit ≤ 2 ^ 64 → signed_in limit (signed_spelling z ++ rest) ≡ Some (z, rest)
 signed_back limit z rest lt le = rw (unsigned_back limit (to_zigzag z) rest lt le, from_zigzag-to_zigzag z) refl

@@ -30,7 +30,7 @@ one_truth false true e = absurd (cc e)
 one_integer : (t : ColType) (a b : ℤ) → reaches (reach t) a ≡ true → reaches (reach t) b ≡ true → signed_decimal a ≡ signed_decimal b → a ≡ b
 one_integer t a b f g e = signed_decimal_injective a b (i64_within t a f).small (i64_within t b g).small e
 
-one_day : (a b : ℤ) (text : List ℕ) → is_day a ≡ true → is_day b ≡ true → day_text a ≡ text → day_text b ≡ text → a ≡ b
+pub one_day : (a b : ℤ) (text : List ℕ) → is_day a ≡ true → is_day b ≡ true → day_text a ≡ text → day_text b ≡ text → a ≡ b
 one_day a b text f g d e =
     let found = date_of_day b g in
     let read : parse_date text ≡ Ok (date_parts found.0) = rw (sym e ∙ sym found.2) (parse_date-date_text found.0) in

@@ -15,6 +15,7 @@ use Rattle.pq_encodings.specs.Indices.{indices_before, indices_in}
 use Rattle.pq_encodings.specs.declared.strings.TheConstants.{MAX_STRING}
 use Rattle.pq_encodings.specs.Runs.{levels_in}
 use Rattle.pq_encodings.specs.Values.{AreShort, Values, bools, i32s, i64s, strings, count_of, kind_of, made, values_in}
+use Rattle.thrift_compact.proofs.Matching.{chosen}
 use Rattle.pq_pages.specs.declared.chunk.ChunkSpec.{ChunkSpec}
 use Rattle.pq_pages.specs.declared.fault.PageFault.{PageFault}
 use Rattle.pq_pages.specs.declared.fault.PageFault.TheVariants as fault
@@ -98,10 +99,6 @@ flags_count law count bytes flags h =
     let same : map is_one b.value ≡ flags = ok_same _ _ b.later in
     ap length (sym same) ∙ length-map b.value is_one ∙ law 1 count bytes b.value read
 
-pub which : {A : Type 0} (t : Bool) (x y r : A) → cond t x y ≡ r → ((t ≡ true) × (x ≡ r)) ⊎ ((t ≡ false) × (y ≡ r))
-which true x y r h = inl (refl, h)
-which false x y r h = inr (refl, h)
-
 pub none_fit : (kind : Physical) (count : ℕ) (text : Bool) → count ≡ 0 → Fit kind count text (no_values kind)
 none_fit physical.Boolean count text h = record { kind = refl; size = sym h; short = tt; texts = λ e. tt }
 none_fit physical.Int32 count text h = record { kind = refl; size = sym h; short = tt; texts = λ e. tt }
@@ -116,7 +113,7 @@ run_fit : LevelsAsked → (text : Bool) (count : ℕ) (bytes : List ℕ) (vs : V
 unfolding run_values
 run_fit law text count bytes vs h =
     let more : Result Values PageFault = framed bytes >>= λ parts. flags_in count parts.0 >>= λ flags. Ok (bools flags) in
-    elim (which (nat_eq count 0) (Ok (bools [])) more (Ok vs) h) [
+    elim (chosen (nat_eq count 0) (Ok (bools [])) more (Ok vs) h) [
       | inl a ↦
           let same : bools [] ≡ vs = ok_same (bools []) vs a.1 in
           subst (λ v. Fit physical.Boolean count text v) same (none_fit physical.Boolean count text (eqb-true count 0 a.0))
@@ -184,7 +181,7 @@ entries_of_fit law kind text place (Some entries) count bytes vs fits h =
 indexed_fit : IndicesAsked → (kind : Physical) (text : Bool) (place : ℕ) (dictionary : Option Values) (count : ℕ) (bytes : List ℕ) (vs : Values) → DictionaryFits kind dictionary → indexed_values kind text place dictionary count bytes ≡ Ok vs → Fit kind count text vs
 unfolding indexed_values
 indexed_fit law kind text place dictionary count bytes vs fits h =
-    elim (which (nat_eq count 0) (Ok (no_values kind)) (entries_of text place dictionary count bytes) (Ok vs) h) [
+    elim (chosen (nat_eq count 0) (Ok (no_values kind)) (entries_of text place dictionary count bytes) (Ok vs) h) [
       | inl a ↦
           let same : no_values kind ≡ vs = ok_same (no_values kind) vs a.1 in
           subst (λ v. Fit kind count text v) same (none_fit kind count text (eqb-true count 0 a.0))
@@ -349,7 +346,7 @@ behind_sound : Laws → (spec : ChunkSpec) (had : Chunk) (header : PageHeader) (
 unfolding behind_header
 behind_sound laws spec had header bytes new sound h =
     let more : Result (Chunk × List ℕ) PageFault = in_page spec had header.page (take header.size bytes) >>= λ c. Ok (c, drop header.size bytes) in
-    elim (which (nat_lt (length bytes) header.size) (Err cut_off) more (Ok new) h) [
+    elim (chosen (nat_lt (length bytes) header.size) (Err cut_off) more (Ok new) h) [
       | inl a ↦ absurd (err_ok cut_off new a.1)
       | inr a ↦
           let b = steps (in_page spec had header.page (take header.size bytes)) (λ c. Ok (c, drop header.size bytes)) new a.1 in
@@ -371,7 +368,7 @@ record Whole (spec : ChunkSpec) (had : Chunk) : Type 0 where
 
 whole_sound : (spec : ChunkSpec) (had new : Chunk) → Sound spec had → whole spec had ≡ Ok new → Whole spec new
 whole_sound spec had new sound h =
-    elim (which (is_whole spec had) (Ok had) (Err (fault.Count spec.num_values (length had.defined))) (Ok new) h) [
+    elim (chosen (is_whole spec had) (Ok had) (Err (fault.Count spec.num_values (length had.defined))) (Ok new) h) [
       | inl a ↦
           let same : had ≡ new = ok_same had new a.1 in
           subst (λ x. Whole spec x) same (record { sound = sound; counted = eqb-true _ _ a.0 })
@@ -382,7 +379,7 @@ pages_sound : Laws → (spec : ChunkSpec) (end most : ℕ) (had : Chunk) (bytes 
 unfolding pages_in
 pages_sound laws spec end zero had bytes new sound h = whole_sound spec had new sound h
 pages_sound laws spec end (suc most) had bytes new sound h =
-    elim (which (is_whole spec had || nat_eq (length bytes) 0) (whole spec had) (page_in spec end had bytes >>= λ x. pages_in spec end most x.0 x.1) (Ok new) h) [
+    elim (chosen (is_whole spec had || nat_eq (length bytes) 0) (whole spec had) (page_in spec end had bytes >>= λ x. pages_in spec end most x.0 x.1) (Ok new) h) [
       | inl a ↦ whole_sound spec had new sound a.1
       | inr a ↦
           let b = steps (page_in spec end had bytes) (λ x. pages_in spec end most x.0 x.1) new a.1 in
@@ -404,7 +401,7 @@ chunk_fits levels indices values spec bytes cells h =
     let laws : Laws = record { levels = levels; indices = indices; values = values } in
     let size = length bytes in
     let more : Result Cells PageFault = pages_in spec size size (no_cells spec.kind) bytes >>= λ had. Ok (cells_in had) in
-    elim (which (is_code 0 spec.codec) more (Err (fault.Compressed spec.codec)) (Ok cells) h) [
+    elim (chosen (is_code 0 spec.codec) more (Err (fault.Compressed spec.codec)) (Ok cells) h) [
       | inl a ↦
           let b = steps (pages_in spec size size (no_cells spec.kind) bytes) (λ had. Ok (cells_in had)) cells a.1 in
           let same : cells_in b.value ≡ cells = ok_same _ cells b.later in

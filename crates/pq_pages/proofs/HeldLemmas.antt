@@ -10,6 +10,7 @@ use Rattle.pq_encodings.specs.declared.fault.EncFault.{EncFault}
 use Rattle.pq_encodings.specs.declared.plain.Physical.{Physical}
 use Rattle.pq_encodings.specs.Indices.{indices_before, indices_in}
 use Rattle.pq_encodings.specs.Values.{Values, count_of, made, values_in}
+use Rattle.thrift_compact.proofs.Matching.{chosen}
 use Rattle.pq_pages.specs.declared.chunk.ChunkSpec.{ChunkSpec}
 use Rattle.pq_pages.specs.declared.fault.PageFault.{PageFault}
 use Rattle.pq_pages.specs.declared.fault.PageFault.TheVariants as fault
@@ -27,7 +28,7 @@ use Rattle.pq_encodings.proofs.IndexLemmas.{indices_in-held, indices_in-of_held}
 use Rattle.pq_pages.proofs.ChunkBackLemmas.{judged_back}
 use Rattle.pq_pages.proofs.LevelsHeldLemmas.{levels_held, levels_v2_held, not_zero, runs_found, runs_held}
 use Rattle.answers.proofs.AnswerLemmas.{steps, err_ok, ok_same}
-use Rattle.pq_pages.proofs.FitLemmas.{judged_ok, none_fit, ok_enc, texts_are, which}
+use Rattle.pq_pages.proofs.FitLemmas.{judged_ok, none_fit, ok_enc, texts_are}
 
 -- ---- Values
 
@@ -56,7 +57,7 @@ picked_held : (text : Bool) (place : ℕ) (kind : Physical) (dictionary : Option
     → indexed_values kind text place dictionary count bytes ≡ Ok vs → ArePicked kind dictionary count bytes vs × (text ≡ true → AreTexts vs)
 unfolding indexed_values
 picked_held text place kind dictionary count bytes vs h =
-    elim (which (nat_eq count 0) (Ok (no_values kind)) (entries_of text place dictionary count bytes) (Ok vs) h) [
+    elim (chosen (nat_eq count 0) (Ok (no_values kind)) (entries_of text place dictionary count bytes) (Ok vs) h) [
       | inl a ↦
           let none : count ≡ 0 = eqb-true count 0 a.0 in
           let same : no_values kind ≡ vs = ok_same (no_values kind) vs a.1 in
@@ -140,9 +141,9 @@ whole_held : (size repetition : ℕ) (body : List ℕ) (u : ⊤) → whole_level
 unfolding whole_levels
 whole_held size repetition body u h =
     let later : Result ⊤ PageFault = cond (nat_lt 0 repetition) (Err (fault.Encoding (pos 3))) (Ok tt) in
-    elim (which (nat_lt (length body) size) (Err cut_off) later (Ok u) h) [
+    elim (chosen (nat_lt (length body) size) (Err cut_off) later (Ok u) h) [
       | inl a ↦ absurd (err_ok cut_off u a.1)
-      | inr a ↦ elim (which (nat_lt 0 repetition) (Err (fault.Encoding (pos 3))) (Ok tt) (Ok u) a.1) [
+      | inr a ↦ elim (chosen (nat_lt 0 repetition) (Err (fault.Encoding (pos 3))) (Ok tt) (Ok u) a.1) [
         | inl b ↦ absurd (err_ok (fault.Encoding (pos 3)) u b.1)
         | inr b ↦
             let none : repetition ≤ 0 = ltb-false 0 repetition b.0 in
@@ -204,7 +205,7 @@ stored_held spec end had bytes new h =
     let body : List ℕ = take size behind in
     let rest : List ℕ = drop size behind in
     let more : Result (Chunk × List ℕ) PageFault = in_page spec had c.value.page body >>= λ x. Ok (x, rest) in
-    elim (which (nat_lt (length behind) size) (Err cut_off) more (Ok new) c.later) [
+    elim (chosen (nat_lt (length behind) size) (Err cut_off) more (Ok new) c.later) [
       | inl a ↦ absurd (err_ok cut_off new a.1)
       | inr a ↦
           let room : size ≤ length behind = ltb-false (length behind) size a.0 in

@@ -8,6 +8,7 @@ use Rattle.thrift_compact.specs.Structs.{struct_in, struct_of}
 use Rattle.pq_encodings.specs.declared.plain.Physical.{Physical}
 use Rattle.pq_encodings.specs.declared.plain.Physical.TheVariants as physical
 use Rattle.pq_encodings.specs.Values.{Values, bools, i32s, i64s, strings, kind_of}
+use Rattle.thrift_compact.proofs.Matching.{chosen}
 use Rattle.pq_pages.specs.declared.chunk.ChunkSpec.{ChunkSpec}
 use Rattle.pq_pages.specs.declared.chunk.RawCells.{RawCells}
 use Rattle.pq_pages.specs.declared.fault.PageFault.{PageFault}
@@ -23,7 +24,7 @@ use Rattle.pq_pages.specs.Holding.{AnswersChunk, AreValues, BeginWith, BeginsWit
 use Rattle.pq_pages.specs.Pages.{Cells, Chunk, behind_header, cells_in, cells_of, chunk_of, data_coding, data_levels, data_page, data_v2_coding, data_v2_levels, data_v2_page, dictionary_page, fits, flags_in, framed, in_page, is_whole, joined, no_cells, no_values, page_in, pages_in, whole, whole_levels, with_cells}
 use Rattle.pq_pages.proofs.ChunkBackLemmas.{ends_here, next_page, none_at_all}
 use Rattle.answers.proofs.AnswerLemmas.{decides, steps, err_ok, ok_same}
-use Rattle.pq_pages.proofs.FitLemmas.{LevelsAsked, ValuesAsked, flags_count, which}
+use Rattle.pq_pages.proofs.FitLemmas.{LevelsAsked, ValuesAsked, flags_count}
 use Rattle.pq_pages.proofs.LevelsHeldLemmas.{levels_found, levels_v2_found}
 use Rattle.pq_pages.proofs.HeldLemmas.{grown, stored_held, values_found}
 
@@ -43,7 +44,7 @@ levels_count law false count body found h =
     subst (λ (x : List Bool × List ℕ). length x.0 ≡ count) same (length-replicate count true)
 levels_count law true count body found h =
     let more : Result (List Bool × List ℕ) PageFault = framed body >>= λ parts. flags_in count parts.0 >>= λ flags. Ok (flags, parts.1) in
-    elim (which (nat_eq count 0) (Ok ([], body)) more (Ok found) h) [
+    elim (chosen (nat_eq count 0) (Ok ([], body)) more (Ok found) h) [
       | inl a ↦
           let same : ([], body) ≡ found = ok_same ([], body) found a.1 in
           subst (λ (x : List Bool × List ℕ). length x.0 ≡ count) same (sym (eqb-true count 0 a.0))
@@ -216,7 +217,7 @@ record PagesHeld (spec : ChunkSpec) (end most : ℕ) (had : Chunk) (bytes : List
 
 none_held : (spec : ChunkSpec) (end most : ℕ) (had : Chunk) (bytes : List ℕ) (new : Chunk) → whole spec had ≡ Ok new → PagesHeld spec end most had bytes new
 none_held spec end most had bytes new h =
-    elim (which (is_whole spec had) (Ok had) (Err (fault.Count spec.num_values (length had.defined))) (Ok new) h) [
+    elim (chosen (is_whole spec had) (Ok had) (Err (fault.Count spec.num_values (length had.defined))) (Ok new) h) [
       | inl a ↦
           let same : had ≡ new = ok_same had new a.1 in
           subst (PagesHeld spec end most had bytes) same
@@ -228,7 +229,7 @@ pages_held : (spec : ChunkSpec) (end most : ℕ) (had : Chunk) (bytes : List ℕ
 unfolding pages_in
 pages_held spec end zero had bytes new h = none_held spec end zero had bytes new h
 pages_held spec end (suc most) had bytes new h =
-    elim (which (is_whole spec had || nat_eq (length bytes) 0) (whole spec had) (page_in spec end had bytes >>= λ x. pages_in spec end most x.0 x.1) (Ok new) h) [
+    elim (chosen (is_whole spec had || nat_eq (length bytes) 0) (whole spec had) (page_in spec end had bytes >>= λ x. pages_in spec end most x.0 x.1) (Ok new) h) [
       | inl a ↦ none_held spec end (suc most) had bytes new a.1
       | inr a ↦
           let b = steps (page_in spec end had bytes) (λ x. pages_in spec end most x.0 x.1) new a.1 in
@@ -281,7 +282,7 @@ unfolding chunk_of
 chunk_held spec bytes cells h =
     let size = length bytes in
     let more : Result Cells PageFault = pages_in spec size size (no_cells spec.kind) bytes >>= λ had. Ok (cells_in had) in
-    elim (which (is_code 0 spec.codec) more (Err (fault.Compressed spec.codec)) (Ok cells) h) [
+    elim (chosen (is_code 0 spec.codec) more (Err (fault.Compressed spec.codec)) (Ok cells) h) [
       | inl a ↦
           let b = steps (pages_in spec size size (no_cells spec.kind) bytes) (λ had. Ok (cells_in had)) cells a.1 in
           let same : cells_in b.value ≡ cells = ok_same (cells_in b.value) cells b.later in

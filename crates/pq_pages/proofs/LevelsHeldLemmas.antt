@@ -9,11 +9,12 @@ use Rattle.answers.proofs.AnswerLemmas.{steps, err_ok, ok_same}
 use Rattle.pq_encodings.specs.Runs.{levels_in}
 use Rattle.pq_encodings.specs.Values.{Values, bools}
 use Rattle.pq_encodings.proofs.GrammarLemmas.{levels_in-held, levels_in-of_held}
+use Rattle.thrift_compact.proofs.Matching.{chosen}
 use Rattle.pq_pages.specs.declared.fault.PageFault.{PageFault}
 use Rattle.pq_pages.specs.Answers.{of_values}
 use Rattle.pq_pages.specs.Holding.{AreRuns, HasLevels, HasLevelsV2, HoldsFlags, HoldsFramedFlags, IsFramed}
 use Rattle.pq_pages.specs.Pages.{cut_off, data_levels, data_v2_levels, flags_in, framed, is_one, run_values}
-use Rattle.pq_pages.proofs.FitLemmas.{ok_enc, which}
+use Rattle.pq_pages.proofs.FitLemmas.{ok_enc}
 
 pub not_zero : (count : ℕ) → nat_eq count 0 ≡ false → count ≢ 0
 not_zero zero h = cc
@@ -27,9 +28,9 @@ framed_held bytes x h =
     let d : List ℕ = drop 4 bytes in
     let n : ℕ = little_number 4 bytes in
     let inner : Result (List ℕ × List ℕ) PageFault = cond (nat_lt (length d) n) (Err cut_off) (Ok (take n d, drop n d)) in
-    elim (which (nat_lt (length bytes) 4) (Err cut_off) inner (Ok x) h) [
+    elim (chosen (nat_lt (length bytes) 4) (Err cut_off) inner (Ok x) h) [
       | inl a ↦ absurd (err_ok cut_off x a.1)
-      | inr a ↦ elim (which (nat_lt (length d) n) (Err cut_off) (Ok (take n d, drop n d)) (Ok x) a.1) [
+      | inr a ↦ elim (chosen (nat_lt (length d) n) (Err cut_off) (Ok (take n d, drop n d)) (Ok x) a.1) [
         | inl b ↦ absurd (err_ok cut_off x b.1)
         | inr b ↦
             let same : (take n d, drop n d) ≡ x = ok_same (take n d, drop n d) x b.1 in
@@ -68,7 +69,7 @@ levels_held false count body x h =
     subst (λ (y : List Bool × List ℕ). HasLevels false count body y.0 y.1) (ok_same (replicate count true, body) x h) (refl, refl)
 levels_held true count body x h =
     let more : Result (List Bool × List ℕ) PageFault = framed body >>= λ parts. flags_in count parts.0 >>= λ flags. Ok (flags, parts.1) in
-    elim (which (nat_eq count 0) (Ok ([], body)) more (Ok x) h) [
+    elim (chosen (nat_eq count 0) (Ok ([], body)) more (Ok x) h) [
       | inl a ↦ subst (λ (y : List Bool × List ℕ). HasLevels true count body y.0 y.1) (ok_same ([], body) x a.1) (inl (eqb-true count 0 a.0, refl, refl))
       | inr a ↦
           let b = steps (framed body) (λ parts. flags_in count parts.0 >>= λ flags. Ok (flags, parts.1)) x a.1 in
@@ -108,7 +109,7 @@ pub runs_held : (count : ℕ) (bytes : List ℕ) (vs : Values) → run_values co
 unfolding run_values
 runs_held count bytes vs h =
     let more : Result Values PageFault = framed bytes >>= λ parts. flags_in count parts.0 >>= λ flags. Ok (bools flags) in
-    elim (which (nat_eq count 0) (Ok (bools [])) more (Ok vs) h) [
+    elim (chosen (nat_eq count 0) (Ok (bools [])) more (Ok vs) h) [
       | inl a ↦ inl (eqb-true count 0 a.0, sym (ok_same (bools []) vs a.1))
       | inr a ↦
           let b = steps (framed bytes) (λ parts. flags_in count parts.0 >>= λ flags. Ok (bools flags)) vs a.1 in

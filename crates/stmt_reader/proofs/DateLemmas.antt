@@ -10,7 +10,7 @@ use Rattle.lake_types.specs.declared.value.Value.{Value}
 use Rattle.lake_types.specs.declared.value.Value.TheVariants as value
 use Rattle.lake_types.specs.Calendar.{is_day, day_text}
 use Rattle.lake_types.specs.Texts.{HasText}
-use Rattle.lake_types.proofs.ValueLemmas.{one_value}
+use Rattle.lake_types.proofs.ValueLemmas.{one_day}
 use Rattle.stmt_reader.specs.Dates.{day_number, day_among, date_of}
 use Rattle.stmt_reader.specs.Rules.{day_of}
 
@@ -22,19 +22,11 @@ place_of d h =
     let parts = and_parts (int_le (neg_ℤ (pos 719162)) d) (int_le d (pos 2932896)) h in
     (unsigned_abs (d +ℤ pos 719162), grind (arith, ints, parts), grind (arith, ints, parts))
 
-has_text : (d : ℤ) (text : List ℕ) → is_day d ≡ true → day_text d ≡ text → HasText ty.Date (value.Date d) text
-has_text d text h e = ((λ n. cc), h, tt, e)
-
-same_day : (d e : ℤ) (text : List ℕ) → is_day d ≡ true → is_day e ≡ true → day_text d ≡ text → day_text e ≡ text → d ≡ e
-same_day d e text h k g f =
-    let one : value.Date d ≡ value.Date e = one_value ty.Date (value.Date d) (value.Date e) text (has_text d text h g) (has_text e text k f) in
-    cc
-
 found_one : (n i : ℕ) (text : List ℕ) → suc n ≤ 3652059 → i < suc n → day_text (day_number i) ≡ text → (t : Bool) → bytes_eq (day_text (day_number n)) text ≡ t
     → (i < n → day_among n text ≡ Some (day_number i)) → cond t (Some (day_number n)) (day_among n text) ≡ Some (day_number i)
 found_one n i text h l e true k ih =
     let same : day_text (day_number n) ≡ text = (bytes_eq-Decides (day_text (day_number n)) text).0 k in
-    ap Some (same_day (day_number n) (day_number i) text (in_calendar n (omega arith)) (in_calendar i (omega arith)) same e)
+    ap Some (one_day (day_number n) (day_number i) text (in_calendar n (omega arith)) (in_calendar i (omega arith)) same e)
 found_one n i text h l e false k ih =
     elim (cases_lt i n) [
       | inl below ↦ ih below

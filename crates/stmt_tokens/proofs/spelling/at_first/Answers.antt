@@ -1,5 +1,5 @@
 use Rattle.std.proofs.Common.{rules}
-use Rattle.stmt_tokens.proofs.QuoteLemmas.{doubled_first, doubled_none}
+use Rattle.lake_types.proofs.TextLemmas.{doubled_first, doubled_none}
 use Rattle.stmt_tokens.proofs.spelling.at_first.Goals as goal
 
 pub returns-clause-doubled : goal.returns-clause-doubled
