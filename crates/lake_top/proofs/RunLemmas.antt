@@ -12,7 +12,8 @@ use Rattle.plain_model.proofs.ReplayLemmas.{replay-lost_in}
 use Rattle.lake_top.proofs.DeskLemmas.{answers-none, answers-then, text-none}
 use Rattle.lake_top.specs.Desk.{Answers, Desk, Moves, new_desk, text_from}
 use Rattle.lake_top.specs.Run.{Answered, AnsweredFront, FinishHalts, Halts, IsCutShort, IsFront, IsKept, Outcome, TurnHalts, UsageOutcome, last_line, status_of}
-use Rattle.lake_top.specs.Script.{lines_of, lines_within_most, most_bytes, script_lines}
+use Rattle.lake_types.specs.declared.limits.TheConstants.{MAX_SCRIPT_BYTES}
+use Rattle.lake_top.specs.Script.{lines_of, lines_within_most, script_lines}
 use Rattle.lake_top.specs.declared.halt.Halt.{Halt}
 use Rattle.lake_top.specs.declared.halt.Halt.TheVariants as halt
 use Rattle.lake_top.specs.declared.status.Status.{Status}
@@ -71,9 +72,9 @@ answered-read d n l m o s t p h =
     answered-by d p.bytes l o s t (subst P (append-nil p.bytes) (Gives-then l m o p.bytes [] p.given h)) p.answered
 
 -- a script that is too long
-pub answered-long : (d : Desk) (n : ℕ) (l m o s t : Option (List ℕ)) (more : List ℕ) → Moves new_desk d n l m s t → n ≡ most_bytes → Gives m o more → Answered l o s t lines_within_most []
+pub answered-long : (d : Desk) (n : ℕ) (l m o s t : Option (List ℕ)) (more : List ℕ) → Moves new_desk d n l m s t → n ≡ MAX_SCRIPT_BYTES → Gives m o more → Answered l o s t lines_within_most []
 answered-long d n l m o s t more p e h =
-    let within : take most_bytes (p.bytes ++ more) ≡ p.bytes = ap (λ k. take k (p.bytes ++ more)) (sym (p.counts ∙ e)) ∙ take-append_seam p.bytes more in
+    let within : take MAX_SCRIPT_BYTES (p.bytes ++ more) ≡ p.bytes = ap (λ k. take k (p.bytes ++ more)) (sym (p.counts ∙ e)) ∙ take-append_seam p.bytes more in
     record {
       bytes = p.bytes ++ more;
       given = Gives-then l m o p.bytes more p.given h;
@@ -238,7 +239,7 @@ outcome-cut halt.Read n l m s t u p h = cut-last l m s t u halt.Read n p.bytes p
 outcome-cut halt.Write n l m s t u p h = outcome-told halt.Write l m s t u p (takes-nothing n t u h)
 outcome-cut halt.Memory n l m s t u p h = cut-last l m s t u halt.Memory n p.bytes p.front p.out p.given p.is_front p.written p.replay h
 outcome-cut halt.TooLong n l m s t u p h =
-    cut-last l m s t u halt.TooLong n p.bytes (take most_bytes p.bytes) p.out p.given (inl (drop most_bytes p.bytes, take-append-drop most_bytes p.bytes)) p.written p.replay h
+    cut-last l m s t u halt.TooLong n p.bytes (take MAX_SCRIPT_BYTES p.bytes) p.out p.given (inl (drop MAX_SCRIPT_BYTES p.bytes, take-append-drop MAX_SCRIPT_BYTES p.bytes)) p.written p.replay h
 
 is-write : (r : Status) → (r ≡ WriteFault) ⊎ (r ≢ WriteFault)
 is-write Good = inr (λ e. cc)

@@ -1,5 +1,6 @@
 -- The counted lines of a script.
 use Rattle.std.specs.Prelude.{ℕ, ◌+◌, List, [], ◌∷◌, ◌++◌, replicate, slice_index, slice_set, take, if◌then◌else◌}
+use Rattle.lake_types.specs.declared.limits.TheConstants.{MAX_SCRIPT_BYTES}
 use Rattle.plain_model.specs.Cuts.{ended_lines}
 use Rattle.plain_model.specs.Replay.{Line}
 use Rattle.line_forms.specs.Forms.{stmt_of}
@@ -31,10 +32,6 @@ lines_of bytes = counted no_counts (ended_lines bytes)
 abbrev pub script_lines : List ℕ → List Line
 script_lines script = lines_of (script ++ 10 ∷ [])
 
--- a script has at most so many bytes
-abbrev pub most_bytes : ℕ
-most_bytes = 67108864
-
 -- the lines that end in the bytes that a script may have
 abbrev pub lines_within_most : List ℕ → List Line
-lines_within_most bytes = lines_of (take most_bytes bytes)
+lines_within_most bytes = lines_of (take MAX_SCRIPT_BYTES bytes)

@@ -1,6 +1,7 @@
 ghost use Rattle.std.specs.Prelude.{◌≡◌, ◌≢◌, ◌≤◌, ◌<◌, ◌+◌, ◌-◌, ◌^◌, ◌⊎◌, ◌∷◌, [], ℕ, min, IfErr, IfOk, OnErr, OnOk, Ok, true, false, length, take};
 ghost use Rattle.lake_io.specs.Causes.{Rose};
 ghost use Rattle.lake_io.specs.Told.{Gives, IsAtEnd, Takes};
+ghost use Rattle.lake_types.specs.declared.limits.TheConstants.{MAX_SCRIPT_BYTES};
 ghost use Rattle.plain_model.specs.Cuts.{NoFeed};
 ghost use Rattle.lake_top.specs.Desk.{new_desk, Answers, Moves};
 ghost use Rattle.lake_top.specs.Run.{Answered, FinishHalts, GivesMore, Halts, Outcome, TurnHalts, UsageOutcome, last_line};
@@ -10,10 +11,8 @@ use crate::desk::{Desk, Stop};
 use crate::halt::Halt;
 use crate::status::Status;
 use lake_io::{Sink, Source, write_all};
+use lake_types::limits::MAX_SCRIPT_BYTES;
 use std::alloc::{AllocError, Global};
-
-/// The most bytes of a script.
-const MOST_BYTES: u64 = 67_108_864;
 
 /// How many bytes are read at once.
 const PIECE_BYTES: usize = 65_536;
@@ -34,6 +33,7 @@ fn turn<S: Source, O: Sink>(
     ensures end { IfOk result (λ n. n ≡ 0 → IsAtEnd (S.left input.new)) }
     ensures within { IfOk result (λ n. n ≤ length piece.old) }
     ensures given { IfOk result (λ n. S.given input.new ≡ min (S.given input.old + n) (2 ^ 64 - 1)) }
+    ensures most { S.given input.new ≤ S.given input.old + length piece.old }
     ensures halt { IfErr result (λ halt. TurnHalts halt desk.old
         (S.left input.old) (S.left input.new) (O.taken output.old) (O.taken output.new)) }
     ensures read_later { S.faults input.old ≤ S.faults input.new }
@@ -72,6 +72,7 @@ fn goes_past<S: Source>(input: &mut S) -> Result<bool, Halt>
     ensures more { IfOk result (λ more. GivesMore more (S.left input.old) (S.left input.new)) }
     ensures none { result ≡ Ok false → S.given input.new ≤ S.given input.old }
     ensures given { result ≡ Ok true → min (S.given input.old + 1) (2 ^ 64 - 1) ≤ S.given input.new }
+    ensures most { S.given input.new ≤ S.given input.old + 1 }
     ensures fault { OnErr result (Gives (S.left input.old) (S.left input.new) []) }
     ensures later { S.faults input.old ≤ S.faults input.new }
     ensures read { OnErr result (Rose (S.faults input.old) (S.faults input.new)) }
@@ -100,16 +101,17 @@ fn answer_all<S: Source, O: Sink>(
     ensures end { OnOk result (IsAtEnd (S.left input.new)) }
     ensures halt { IfErr result (λ halt. Halts halt
         (S.left input.old) (S.left input.new) (O.taken output.old) (O.taken output.new)) }
-    ensures short { OnOk result (S.given input.new ≤ S.given input.old + 67108864) }
+    ensures short { OnOk result (S.given input.new ≤ S.given input.old + MAX_SCRIPT_BYTES) }
+    ensures most { S.given input.new ≤ S.given input.old + MAX_SCRIPT_BYTES + 1 }
     ensures read { result ≡ Err Halt.Read → Rose (S.faults input.old) (S.faults input.new) }
     ensures write { result ≡ Err Halt.Write → Rose (O.faults output.old) (O.faults output.new) }
     ensures long { result ≡ Err Halt.TooLong →
-        min (S.given input.old + 67108865) (2 ^ 64 - 1) ≤ S.given input.new }
+        min (S.given input.old + MAX_SCRIPT_BYTES + 1) (2 ^ 64 - 1) ≤ S.given input.new }
     ensures later { O.faults output.old ≤ O.faults output.new }
 {
     let mut total = 0u64;
-    while total < MOST_BYTES {
-        let room = piece.len().min((MOST_BYTES - total) as usize);
+    while total < MAX_SCRIPT_BYTES {
+        let room = piece.len().min((MAX_SCRIPT_BYTES - total) as usize);
         let count = match turn(alloc, input, output, desk, &mut piece[..room]) {
             Ok(count) => count,
             Err(halt) => return Err(halt),
@@ -148,11 +150,12 @@ fn answered<S: Source, O: Sink>(alloc: Global, input: &mut S, output: &mut O) ->
     ensures end { OnOk result (IsAtEnd (S.left input.new)) }
     ensures halt { IfErr result (λ halt. Halts halt
         (S.left input.old) (S.left input.new) (O.taken output.old) (O.taken output.new)) }
-    ensures short { OnOk result (S.given input.new ≤ S.given input.old + 67108864) }
+    ensures short { OnOk result (S.given input.new ≤ S.given input.old + MAX_SCRIPT_BYTES) }
+    ensures most { S.given input.new ≤ S.given input.old + MAX_SCRIPT_BYTES + 1 }
     ensures read { result ≡ Err Halt.Read → Rose (S.faults input.old) (S.faults input.new) }
     ensures write { result ≡ Err Halt.Write → Rose (O.faults output.old) (O.faults output.new) }
     ensures long { result ≡ Err Halt.TooLong →
-        min (S.given input.old + 67108865) (2 ^ 64 - 1) ≤ S.given input.new }
+        min (S.given input.old + MAX_SCRIPT_BYTES + 1) (2 ^ 64 - 1) ≤ S.given input.new }
     ensures later { O.faults output.old ≤ O.faults output.new }
 {
     match begun(alloc) {
@@ -200,12 +203,15 @@ pub fn run<S: Source, O: Sink>(
     ensures usage { length words.now ≢ 1 → UsageOutcome result (O.taken output.old) (O.taken output.new) }
     ensures unread { length words.now ≢ 1 → input.new ≡ input.old }
 
+    // No more is read than shows that a script is too long.
+    ensures most { S.given input.new ≤ S.given input.old + MAX_SCRIPT_BYTES + 1 }
+
     // The causes of the statuses.
-    ensures short { result ≡ Status.Good → S.given input.new ≤ S.given input.old + 67108864 }
+    ensures short { result ≡ Status.Good → S.given input.new ≤ S.given input.old + MAX_SCRIPT_BYTES }
     ensures read { result ≡ Status.ReadFault → Rose (S.faults input.old) (S.faults input.new) }
     ensures write { result ≡ Status.WriteFault → Rose (O.faults output.old) (O.faults output.new) }
     ensures long { result ≡ Status.TooLong →
-        min (S.given input.old + 67108865) (2 ^ 64 - 1) ≤ S.given input.new }
+        min (S.given input.old + MAX_SCRIPT_BYTES + 1) (2 ^ 64 - 1) ≤ S.given input.new }
 {
     if words.len() != 1 {
         return told(output, Status::Usage);
