@@ -2,12 +2,15 @@
 use Rattle.std.specs.Prelude.{◌≡◌, ◌≢◌, ℕ, List, Option, Some, None}
 use Rattle.std.specs.List.{AllByRecursion}
 use Rattle.lake_types.specs.Cells.{cell_at, laid_cells}
+use Rattle.lake_types.specs.Kinds.{AreInOrder}
+use Rattle.lake_types.specs.declared.kind.SchemaName.{SchemaName}
 use Rattle.lake_types.specs.declared.stmt.Stmt.{Stmt}
 use Rattle.lake_types.specs.declared.value.Column.{Column}
 use Rattle.lake_types.specs.declared.value.Value.{Value}
 use Rattle.lake_model.specs.Apply.{worked}
 use Rattle.lake_model.specs.ByTable.{tables_after}
 use Rattle.lake_model.specs.Core.{Core}
+use Rattle.lake_model.specs.Kinds.{kinds}
 use Rattle.lake_model.specs.Losses.{LossSort, loss_sort}
 use Rattle.lake_model.specs.Replay.{AreLosses, IsLossText, IsReplay, Lake, Line, LostWhereListed, lost_in, replay_text}
 use Rattle.lake_model.specs.State.{State}
@@ -35,6 +38,12 @@ LossesHaveTexts = (a : Answer) (s : LossSort) → loss_sort a ≡ Some s → IsL
 -- and no statement of the plain lake answers one
 abbrev pub StepsLoseNothing : Type 0
 StepsLoseNothing = (core : Core) (own : List Change) (session : ℕ) (x : Stmt) (s : LossSort) → loss_sort (step core own session x).reply.last ≡ Some s → ⊥
+
+-- ---- kinds
+
+-- the kinds of a list stand in order, each once, so that a text spells them
+abbrev pub KindsAreInOrder : Type 0
+KindsAreInOrder = (names : List SchemaName) (own : List Change) → AreInOrder (kinds names own)
 
 -- ---- apply, table by table
 
