@@ -41,9 +41,9 @@ pub trait Held: Drop {
 /// A folder of files, of which a disk sees one part. A file begins as a draft, which `sync` makes whole. A crash
 /// leaves each draft as any bytes or not at all, each whole file as it is, and nothing else.
 ///
-/// A draft is known by its name alone. Where the name was removed and a file made under it since, `append` and
-/// `sync` of the older draft act on what stands there now: `sync` puts the older draft's bytes in its place, be it a
-/// draft or whole. Who makes each name once, as `Names` gives them, never meets this.
+/// A draft is known by its name alone. Where the name was removed and a file made under it since, `append` of the older
+/// draft may change the bytes that stand there now, and `sync` puts the older draft's bytes in their place, be it a
+/// draft's or a whole file's. Who makes each name once, as `Names` gives them, never meets this.
 pub trait FileDisk {
     type File: Held;
 

@@ -1,5 +1,6 @@
 //! The plain lake: what the lake is to its users, as definitions over lists, and the plain data that they speak of.
-//! Nothing in it names a file, a row of the catalogue or the structure of the code.
+//! What the lake is names no file, no row of the catalogue and nothing of the code's structure. An entry of a history
+//! carries such things for the proofs of the code alone (`specs/History.antt`).
 #![tactic(auto)]
 
 mod answer;
