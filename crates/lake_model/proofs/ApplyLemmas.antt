@@ -1,12 +1,11 @@
 -- What a list does, table by table.
-use Rattle.std.proofs.Common.{◌≡◌, ℕ, ◌+◌, List, [], ◌∷◌, ◌++◌, map, filter, refl, sym, ap, ◌∙◌, append_assoc, append-nil, Bool, true, false}
+use Rattle.std.proofs.Common.{◌≡◌, ℕ, ◌+◌, List, [], ◌∷◌, ◌++◌, map, filter, refl, sym, ap, ◌∙◌, append-nil, Bool, true, false}
 use Rattle.std.specs.Prelude.{Option, Some, None, not, fold}
 use Rattle.std.specs.List.{cons_option, filter_map}
 use Rattle.lake_types.specs.declared.value.Column.{Column}
-use Rattle.lake_model.specs.Apply.{Draft, Work, altered, begun, changed, created, drafted, is_ref, with_schema, with_table, without_schema, without_table, worked}
-use Rattle.lake_model.specs.ByTable.{draft_after, made_from, tables_after}
+use Rattle.lake_model.specs.Apply.{Draft, Work, altered, begun, changed, created, is_ref, with_schema, with_table, without_schema, without_table}
+use Rattle.lake_model.specs.ByTable.{draft_after, made_from}
 use Rattle.lake_model.specs.Laws.{GoesByTable}
-use Rattle.lake_model.specs.State.{State}
 use Rattle.lake_model.specs.declared.change.Change.{Change}
 use Rattle.lake_model.specs.declared.change.Change.TheVariants as change
 use Rattle.lake_model.specs.declared.change.Ref.{Ref}

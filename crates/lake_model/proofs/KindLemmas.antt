@@ -1,5 +1,5 @@
 -- The kinds of a list stand in order.
-use Rattle.std.proofs.Common.{◌≡◌, ℕ, List, [], ◌∷◌, ◌++◌, refl, sym, ap, ◌∙◌, fold}
+use Rattle.std.proofs.Common.{◌≡◌, List, [], ◌∷◌, refl, ap, ◌∙◌}
 use Rattle.std.specs.Cmp.Lexicographic.{slice_cmp}
 use Rattle.std.specs.Ordering.{nat_cmp, ordering_reverse}
 use Rattle.std.specs.declared.cmp.Ordering.{Ordering}
@@ -8,7 +8,7 @@ use Rattle.std.proofs.lemmas.Cmp.{nat_cmp_total, nat_list_cmp_total}
 use Rattle.lake_types.specs.Kinds.{AreInOrder, kind_cmp, rank, subject, then_by}
 use Rattle.lake_types.specs.declared.kind.Kind.{Kind}
 use Rattle.lake_types.specs.declared.kind.SchemaName.{SchemaName}
-use Rattle.lake_model.specs.Kinds.{in_order, kinds, kinds_from, put, put_by}
+use Rattle.lake_model.specs.Kinds.{kinds, kinds_from, put, put_all}
 use Rattle.lake_model.specs.declared.change.Change.{Change}
 
 reversed : (a b c x y z : Ordering) → x ≡ ordering_reverse a → y ≡ ordering_reverse b → z ≡ ordering_reverse c
@@ -47,7 +47,7 @@ put-order k (m ∷ more) h = go (kind_cmp k m) refl
     go Equal is = rw is h
     go Greater is = rw is (put-behind m k more (below k m is) h)
 
-all-order : (ks sorted : List Kind) → AreInOrder sorted → AreInOrder (fold (λ so_far k. put k so_far) sorted ks)
+all-order : (ks sorted : List Kind) → AreInOrder sorted → AreInOrder (put_all sorted ks)
 all-order [] sorted h = h
 all-order (k ∷ ks) sorted h = all-order ks (put k sorted) (put-order k sorted h)
 

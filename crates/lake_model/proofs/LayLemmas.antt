@@ -1,6 +1,6 @@
 -- Rows that are laid twice.
-use Rattle.std.proofs.Common.{◌≡◌, ◌≢◌, ℕ, ◌==◌, List, [], ◌∷◌, map, refl, sym, ap, ◌∙◌, Bool, true, false, arith}
-use Rattle.std.specs.Prelude.{Option, Some, None, unwrap_or}
+use Rattle.std.proofs.Common.{◌≡◌, ◌≢◌, ℕ, ◌==◌, List, [], ◌∷◌, refl, ap, ◌∙◌, Bool, true, false, arith}
+use Rattle.std.specs.Prelude.{None, unwrap_or}
 use Rattle.std.specs.List.{AllByRecursion}
 use Rattle.lake_types.specs.Cells.{cell_at, laid_cell, laid_cells}
 use Rattle.lake_types.specs.declared.value.Column.{Column}

@@ -3,5 +3,7 @@ pub mod ExampleLemmas
 pub mod KindLemmas
 pub mod LayLemmas
 pub mod LineLemmas
+pub mod MarkLemmas
+pub mod PlaceLemmas
 pub mod ReplayLemmas
 pub mod SpareLemmas

@@ -1,9 +1,9 @@
 -- The lines of a reply, and what stands behind their heads.
-use Rattle.std.proofs.Common.{◌≡◌, ◌≢◌, ℕ, ◌+◌, ◌/◌, ◌%◌, ◌≤◌, List, [], ◌∷◌, ◌++◌, refl, ap, sym, ◌∙◌, arith, append_assoc, Bool, true, false, cond, suc, zero}
-use Rattle.std.specs.Prelude.{nat_eq, codes, flat_map, decimal, Some, None}
+use Rattle.std.proofs.Common.{◌≡◌, ◌≢◌, ℕ, ◌/◌, ◌%◌, List, [], ◌∷◌, ◌++◌, refl, ap, sym, ◌∙◌, arith, append_assoc, Bool, true, false, cond, suc, zero}
+use Rattle.std.specs.Prelude.{nat_eq, codes, flat_map, decimal, Some}
 use Rattle.std.specs.Fmt.{digits, digits_onto, digit_glyph}
 use Rattle.std.specs.List.{cons_option}
-use Rattle.lake_model.specs.Replay.{answer_in, answers_in, behind_head, ended_lines, onto_first_line, told_under, Said, NoFeed}
+use Rattle.lake_model.specs.Replay.{answer_in, answers_in, behind_head, ended_lines, onto_first_line, NoFeed}
 use Rattle.lake_model.specs.Texts.{head_text, printed, printed_row, shown, shown_byte}
 
 -- a choice has what both sides have

@@ -1,9 +1,8 @@
 -- The text of a replay shows which lines it has lost.
 use Rattle.std.proofs.Common.{◌≡◌, ℕ, List, [], ◌∷◌, ◌++◌, refl, ap, sym, subst, ◌∙◌, map}
 use Rattle.std.specs.Prelude.{Option, Some, None}
-use Rattle.lake_types.specs.declared.stmt.Stmt.{Stmt}
-use Rattle.lake_model.specs.Losses.{LossSort, Memory, Disk, Keeper, Damaged, NameTaken, Spent, SpentHistory, MayLose, loss_sort}
-use Rattle.lake_model.specs.Replay.{AreLosses, IsLossText, IsReplay, IsStmt, IsTooLong, IsWrongAt, Lake, Line, LostWhereListed, NoFeed, Said, Saying, answer_in, lost_in, lost_of, lost_text, own_at, replay_text, said, said_to, sort_in, told}
+use Rattle.lake_model.specs.Losses.{LossSort, loss_sort}
+use Rattle.lake_model.specs.Replay.{AreLosses, IsLossText, IsReplay, IsStmt, IsTooLong, IsWrongAt, Lake, Line, LostWhereListed, NoFeed, Saying, answer_in, lost_in, lost_of, lost_text, own_at, replay_text, said, said_to, sort_in, told}
 use Rattle.lake_model.specs.Step.{step}
 use Rattle.lake_model.specs.Texts.{answer_text, head_text, shown}
 use Rattle.lake_model.specs.declared.answer.Answer.{Answer}

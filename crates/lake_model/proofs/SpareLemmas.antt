@@ -1,6 +1,6 @@
 -- No step of the plain lake gives an answer that stands for a loss.
-use Rattle.std.proofs.Common.{◌≡◌, ℕ, List, [], ◌∷◌, ◌++◌, refl, Bool, true, false, map, length}
-use Rattle.std.specs.Prelude.{Option, Some, None, option_map, not, nat_lt, nat_le, is_none, ◌&&◌, ◌==◌}
+use Rattle.std.proofs.Common.{◌≡◌, ℕ, List, [], ◌∷◌, ◌++◌, refl, Bool, true, false, length}
+use Rattle.std.specs.Prelude.{Option, Some, None, option_map, not, ◌==◌}
 use Rattle.lake_types.specs.Cells.{column_named}
 use Rattle.lake_types.specs.Fits.{promotes}
 use Rattle.lake_types.specs.declared.kind.Clash.{Clash}

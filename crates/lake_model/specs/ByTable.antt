@@ -1,5 +1,5 @@
 -- What a list does to one table depends on the list and on that table's draft alone.
-use Rattle.std.specs.Prelude.{ℕ, ◌+◌, Bool, List, [], ◌∷◌, ◌++◌, map, Option, Some, None, if◌then◌else◌}
+use Rattle.std.specs.Prelude.{ℕ, ◌+◌, List, [], ◌∷◌, ◌++◌, map, Option, Some, None, if◌then◌else◌}
 use Rattle.std.specs.List.{cons_option, filter_map}
 use Rattle.lake_model.specs.Apply.{Draft, altered, created, drafted}
 use Rattle.lake_model.specs.Kinds.{is_drop_of_table}

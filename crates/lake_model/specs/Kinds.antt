@@ -49,7 +49,7 @@ deletes_row own at row = list_any (is_delete_of at row) own
 -- whether one of the first n rows that the list inserts into a table is left at the end
 abbrev pub leaves_among : ℕ → List Change → Ref → Bool
 leaves_among zero own at = false
-leaves_among (suc n) own at = not (deletes_row own at (row_ref.Fresh n)) || leaves_among n own at
+leaves_among (suc n) own at = leaves_among n own at || not (deletes_row own at (row_ref.Fresh n))
 
 abbrev pub leaves_fresh : List Change → Ref → Bool
 leaves_fresh own at = leaves_among (inserted own at) own at
@@ -83,28 +83,44 @@ abbrev pub of_table : List Change → Ref → (ℕ → List Kind) → List Kind
 of_table own (ref.Old id) kinds = if drops_table own (ref.Old id) then [] else kinds id
 of_table own (ref.New place) kinds = []
 
-abbrev pub is_altered : ℕ → List Kind
-is_altered id = kind.Altered id ∷ []
-
-abbrev pub is_compacted : ℕ → List Kind
-is_compacted id = kind.Compacted id ∷ []
-
 -- a row that is updated is inserted anew and deleted
 abbrev pub is_updated : List RowRef → ℕ → List Kind
 is_updated rows id = only_if (names_old rows) (kind.InsertedInto id) ++ only_if (names_old rows) (kind.DeletedFrom id)
 
+-- what a change of a table of the base is
+abbrev pub kinds_of_old : List Change → Change → ℕ → List Kind
+kinds_of_old own (change.AddColumn table column) id = kind.Altered id ∷ []
+kinds_of_old own (change.DropColumn table field) id = kind.Altered id ∷ []
+kinds_of_old own (change.RenameColumn table field name) id = kind.Altered id ∷ []
+kinds_of_old own (change.PromoteColumn table field ty) id = kind.Altered id ∷ []
+kinds_of_old own (change.SetDefault table field value) id = kind.Altered id ∷ []
+kinds_of_old own (change.Insert table rows) id = only_if (leaves_fresh own (ref.Old id)) (kind.InsertedInto id)
+kinds_of_old own (change.Delete table rows) id = only_if (names_old rows) (kind.DeletedFrom id)
+kinds_of_old own (change.Update table rows set) id = is_updated rows id
+kinds_of_old own (change.Compact table) id = kind.Compacted id ∷ []
+kinds_of_old own (change.Flush table) id = kind.Compacted id ∷ []
+kinds_of_old own c id = []
+
+-- the table that a change is of, where it stands in the base or was created
+abbrev pub table_of : Change → Option Ref
+table_of (change.AddColumn table column) = Some table
+table_of (change.DropColumn table field) = Some table
+table_of (change.RenameColumn table field name) = Some table
+table_of (change.PromoteColumn table field ty) = Some table
+table_of (change.SetDefault table field value) = Some table
+table_of (change.Insert table rows) = Some table
+table_of (change.Delete table rows) = Some table
+table_of (change.Update table rows set) = Some table
+table_of (change.Compact table) = Some table
+table_of (change.Flush table) = Some table
+table_of c = None
+
+abbrev pub kinds_on : List Change → Change → Option Ref → List Kind
+kinds_on own c None = []
+kinds_on own c (Some table) = of_table own table (kinds_of_old own c)
+
 abbrev pub kinds_by : List Change → Change → List Kind
-kinds_by own (change.AddColumn table column) = of_table own table is_altered
-kinds_by own (change.DropColumn table field) = of_table own table is_altered
-kinds_by own (change.RenameColumn table field name) = of_table own table is_altered
-kinds_by own (change.PromoteColumn table field ty) = of_table own table is_altered
-kinds_by own (change.SetDefault table field value) = of_table own table is_altered
-kinds_by own (change.Insert table rows) = of_table own table (λ id. only_if (leaves_fresh own table) (kind.InsertedInto id))
-kinds_by own (change.Delete table rows) = of_table own table (λ id. only_if (names_old rows) (kind.DeletedFrom id))
-kinds_by own (change.Update table rows set) = of_table own table (is_updated rows)
-kinds_by own (change.Compact table) = of_table own table is_compacted
-kinds_by own (change.Flush table) = of_table own table is_compacted
-kinds_by own c = []
+kinds_by own c = kinds_on own c (table_of c)
 
 -- a schema or table that the list creates and drops has no kind, and one of the base that it drops the dropped kind
 abbrev pub dropped_schema : List SchemaName → Ref → List Kind
@@ -115,16 +131,27 @@ abbrev pub dropped_table : Ref → List Kind
 dropped_table (ref.Old id) = kind.DroppedTable id ∷ []
 dropped_table (ref.New place) = []
 
--- the kinds of the changes from one on, before which so many schemas and tables were created; own is the whole list
+-- the kinds that one change of the list makes, before which so many schemas and tables were created
+abbrev pub kinds_at : List SchemaName → List Change → ℕ → ℕ → Change → List Kind
+kinds_at names own m n (change.CreateSchema name) = only_if (not (drops_schema own (ref.New m))) (kind.CreatedSchema name)
+kinds_at names own m n (change.CreateTable schema name columns) =
+    only_if (not (drops_table own (ref.New n))) (kind.CreatedTable (schema_name names own schema) name)
+kinds_at names own m n (change.DropSchema schema) = dropped_schema names schema
+kinds_at names own m n (change.DropTable table) = dropped_table table
+kinds_at names own m n c = kinds_by own c
+
+abbrev pub schemas_after : ℕ → Change → ℕ
+schemas_after m (change.CreateSchema name) = m + 1
+schemas_after m c = m
+
+abbrev pub tables_after : ℕ → Change → ℕ
+tables_after n (change.CreateTable schema name columns) = n + 1
+tables_after n c = n
+
+-- the kinds of the changes from one on; own is the whole list
 abbrev pub kinds_from : List SchemaName → List Change → ℕ → ℕ → List Change → List Kind
 kinds_from names own m n [] = []
-kinds_from names own m n (change.CreateSchema name ∷ rest) =
-    only_if (not (drops_schema own (ref.New m))) (kind.CreatedSchema name) ++ kinds_from names own (m + 1) n rest
-kinds_from names own m n (change.CreateTable schema name columns ∷ rest) =
-    only_if (not (drops_table own (ref.New n))) (kind.CreatedTable (schema_name names own schema) name) ++ kinds_from names own m (n + 1) rest
-kinds_from names own m n (change.DropSchema schema ∷ rest) = dropped_schema names schema ++ kinds_from names own m n rest
-kinds_from names own m n (change.DropTable table ∷ rest) = dropped_table table ++ kinds_from names own m n rest
-kinds_from names own m n (c ∷ rest) = kinds_by own c ++ kinds_from names own m n rest
+kinds_from names own m n (c ∷ rest) = kinds_at names own m n c ++ kinds_from names own (schemas_after m c) (tables_after n c) rest
 
 -- ---- in order, each once
 
@@ -138,8 +165,11 @@ abbrev pub put : Kind → List Kind → List Kind
 put k [] = k ∷ []
 put k (l ∷ rest) = put_by (kind_cmp k l) k l rest (put k rest)
 
+abbrev pub put_all : List Kind → List Kind → List Kind
+put_all sorted kinds = fold (λ so_far k. put k so_far) sorted kinds
+
 abbrev pub in_order : List Kind → List Kind
-in_order kinds = fold (λ sorted k. put k sorted) [] kinds
+in_order kinds = put_all [] kinds
 
 -- The kinds of a list: the base has the schemas of these names.
 abbrev pub kinds : List SchemaName → List Change → List Kind

@@ -15,3 +15,4 @@ pub mod History
 pub mod Examples
 pub mod ByTable
 pub mod Laws
+pub mod Placed

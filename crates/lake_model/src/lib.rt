@@ -7,8 +7,10 @@ mod answer;
 mod call;
 mod change;
 pub mod examples;
+mod kinds;
 pub mod laws;
 
 pub use answer::{Answer, Counter, Reply, WordsList};
 pub use call::{Call, CallReply, Entry, Loss, Open, SnapRow, SnapRows};
 pub use change::{Change, ChangeList, Ref, RowRef, RowRefs, Txn};
+pub use kinds::kinds_of;
