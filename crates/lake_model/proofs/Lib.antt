@@ -1,5 +1,6 @@
 pub mod ApplyLemmas
 pub mod ExampleLemmas
+pub mod IdLemmas
 pub mod KindLemmas
 pub mod LayLemmas
 pub mod LineLemmas

@@ -1,19 +1,20 @@
 -- What holds of the plain lake.
-use Rattle.std.specs.Prelude.{◌≡◌, ◌≢◌, ℕ, List, Option, Some, None}
+use Rattle.std.specs.Prelude.{◌≡◌, ◌≢◌, ◌<◌, ℕ, List, [], ◌∷◌, map, Option, Some, None}
 use Rattle.std.specs.List.{AllByRecursion}
 use Rattle.lake_types.specs.Cells.{cell_at, laid_cells}
 use Rattle.lake_types.specs.Kinds.{AreInOrder}
 use Rattle.lake_types.specs.declared.kind.SchemaName.{SchemaName}
 use Rattle.lake_types.specs.declared.stmt.Stmt.{Stmt}
 use Rattle.lake_types.specs.declared.value.Column.{Column}
+use Rattle.lake_types.specs.declared.value.Row.{Row}
 use Rattle.lake_types.specs.declared.value.Value.{Value}
-use Rattle.lake_model.specs.Apply.{worked}
+use Rattle.lake_model.specs.Apply.{apply, worked}
 use Rattle.lake_model.specs.ByTable.{tables_after}
 use Rattle.lake_model.specs.Core.{Core}
 use Rattle.lake_model.specs.Kinds.{kinds}
 use Rattle.lake_model.specs.Losses.{LossSort, loss_sort}
 use Rattle.lake_model.specs.Replay.{AreLosses, IsLossText, IsReplay, Lake, Line, LostWhereListed, lost_in, replay_text}
-use Rattle.lake_model.specs.State.{State}
+use Rattle.lake_model.specs.State.{State, Table}
 use Rattle.lake_model.specs.Step.{step}
 use Rattle.lake_model.specs.Texts.{answer_text, shown}
 use Rattle.lake_model.specs.declared.answer.Answer.{Answer}
@@ -64,3 +65,18 @@ abbrev pub LaysOnce : Type 0
 LaysOnce =
     (before later : List Column) (cells : List (ℕ × Value)) → AllByRecursion (IsLater before cells) later
     → laid_cells later (laid_cells before cells) ≡ laid_cells later cells
+
+-- ---- row ids
+
+-- numbers that rise, all of them below a limit
+abbrev pub RiseBelow : ℕ → List ℕ → Type 0
+RiseBelow limit [] = Unit {0}
+RiseBelow limit (x ∷ xs) = (x < limit) × AllByRecursion (λ y. x < y) xs × RiseBelow limit xs
+
+-- the ids of a table's rows rise and lie below its next one
+abbrev pub HasRowIds : Table → Type 0
+HasRowIds t = RiseBelow t.next_row (map (λ (r : Row). r.id) t.rows)
+
+-- so it is of the new lake, and a list keeps it
+abbrev pub RowIdsRise : Type 0
+RowIdsRise = (s : State) (own : List Change) → AllByRecursion HasRowIds s.tables → AllByRecursion HasRowIds (apply s own).tables

@@ -1,6 +1,6 @@
 //! What holds of the plain lake. Each function's contract is a law, and its body is empty.
 
-ghost use Rattle.lake_model.specs.Laws.{GoesByTable, KindsAreInOrder, LaysOnce, LossesHaveTexts, LostLinesAreShown, StepsLoseNothing, TextsAreReplays};
+ghost use Rattle.lake_model.specs.Laws.{GoesByTable, KindsAreInOrder, LaysOnce, LossesHaveTexts, LostLinesAreShown, RowIdsRise, StepsLoseNothing, TextsAreReplays};
 
 /// The text of a replay shows which of its lines were lost, so that nothing of it is chosen.
 pub fn lost_lines_are_shown()
@@ -25,4 +25,9 @@ pub fn rows_are_laid_once()
 /// The kinds of a list stand in the order of a changes text, each once.
 pub fn kinds_stand_in_order()
     ensures { KindsAreInOrder }
+{}
+
+/// The ids of a table's rows rise and lie below its next one, and a list keeps that.
+pub fn row_ids_rise()
+    ensures { RowIdsRise }
 {}

@@ -1,0 +1,150 @@
+-- The ids of rows rise below their counter.
+use Rattle.std.proofs.Common.{◌≡◌, ℕ, ◌+◌, ◌<◌, List, [], ◌∷◌, ◌++◌, ◌==◌, map, filter, length, refl, sym, ap, subst, arith, Bool, true, false}
+use Rattle.std.specs.Prelude.{Option, Some, None, not}
+use Rattle.std.specs.List.{AllByRecursion, cons_option, filter_map}
+use Rattle.lake_types.specs.declared.value.Row.{Row}
+use Rattle.lake_model.specs.Apply.{Cells, Draft, altered, at_table, created, drafted, is_named, is_ref, left, numbered, promoted, renamed, settled_table, updated_row, with_column, with_default, with_rows, with_updates, without_column, without_rows, worked}
+use Rattle.lake_model.specs.ByTable.{draft_after, made_from, tables_after}
+use Rattle.lake_model.specs.Laws.{HasRowIds, RiseBelow, RowIdsRise}
+use Rattle.lake_model.specs.Kinds.{is_drop_of_table}
+use Rattle.lake_model.specs.State.{State, Table}
+use Rattle.lake_model.specs.declared.change.Change.{Change}
+use Rattle.lake_model.specs.declared.change.Change.TheVariants as change
+use Rattle.lake_model.specs.declared.change.Ref.{Ref}
+use Rattle.lake_model.specs.declared.change.RowRef.{RowRef}
+use Rattle.lake_model.specs.declared.change.RowRef.TheVariants as row_ref
+use Rattle.lake_model.proofs.ApplyLemmas.{by_table}
+
+abbrev ids : List Row → List ℕ
+ids rows = map (λ (r : Row). r.id) rows
+
+-- ---- lists of ids
+
+past-filter : (n : ℕ) (p : Row → Bool) (rows : List Row) → AllByRecursion (λ y. n < y) (ids rows) → AllByRecursion (λ y. n < y) (ids (filter p rows))
+past-filter n p [] h = h
+past-filter n p (r ∷ rows) h = go (p r) refl (past-filter n p rows h.1)
+  where
+    go : (b : Bool) → p r ≡ b → AllByRecursion (λ y. n < y) (ids (filter p rows)) → AllByRecursion (λ y. n < y) (ids (filter p (r ∷ rows)))
+    go true e rest = rw e (h.0, rest)
+    go false e rest = rw e rest
+
+rise-filter : (limit : ℕ) (p : Row → Bool) (rows : List Row) → RiseBelow limit (ids rows) → RiseBelow limit (ids (filter p rows))
+rise-filter limit p [] h = h
+rise-filter limit p (r ∷ rows) h = go (p r) refl (past-filter r.id p rows h.1) (rise-filter limit p rows h.2)
+  where
+    go : (b : Bool) → p r ≡ b → AllByRecursion (λ y. r.id < y) (ids (filter p rows)) → RiseBelow limit (ids (filter p rows)) → RiseBelow limit (ids (filter p (r ∷ rows)))
+    go true e past rest = rw e (h.0, past, rest)
+    go false e past rest = rw e rest
+
+same-ids : (f : Row → Row) (rows : List Row) → ((r : Row) → (f r).id ≡ r.id) → ids (map f rows) ≡ ids rows
+same-ids f [] h = refl
+same-ids f (r ∷ rows) h = rw (h r) (ap (λ more. r.id ∷ more) (same-ids f rows h))
+
+updated-id : (rows : List RowRef) (set : Cells) (r : Row) → (updated_row rows set r).id ≡ r.id
+updated-id rows set r = go (is_named rows (row_ref.Old r.id)) refl
+  where
+    go : (b : Bool) → is_named rows (row_ref.Old r.id) ≡ b → (updated_row rows set r).id ≡ r.id
+    go true e = rw e refl
+    go false e = rw e refl
+
+past-numbered : (n m : ℕ) (fresh : List Cells) → n < m → AllByRecursion (λ y. n < y) (ids (numbered m fresh))
+past-numbered n m [] lt = tt
+past-numbered n m (cells ∷ fresh) lt = (lt, past-numbered n (m + 1) fresh (omega (arith, lt)))
+
+rise-numbered : (n : ℕ) (fresh : List Cells) → RiseBelow (n + length fresh) (ids (numbered n fresh))
+rise-numbered n [] = tt
+rise-numbered n (cells ∷ fresh) =
+    let limit : (n + 1) + length fresh ≡ n + length (cells ∷ fresh) = omega arith in
+    (omega arith, past-numbered n (n + 1) fresh (omega arith), subst (λ l. RiseBelow l (ids (numbered (n + 1) fresh))) limit (rise-numbered (n + 1) fresh))
+
+past-append : (x n : ℕ) (rows : List Row) (fresh : List Cells) → x < n → AllByRecursion (λ y. x < y) (ids rows) → AllByRecursion (λ y. x < y) (ids (rows ++ numbered n fresh))
+past-append x n [] fresh lt h = past-numbered x n fresh lt
+past-append x n (r ∷ rows) fresh lt h = (h.0, past-append x n rows fresh lt h.1)
+
+rise-append : (n : ℕ) (rows : List Row) (fresh : List Cells) → RiseBelow n (ids rows) → RiseBelow (n + length fresh) (ids (rows ++ numbered n fresh))
+rise-append n [] fresh h = rise-numbered n fresh
+rise-append n (r ∷ rows) fresh h = (omega (arith, h.0), past-append r.id n rows fresh h.0 h.1, rise-append n rows fresh h.2)
+
+-- ---- drafts
+
+abbrev Rises : Draft → Type 0
+Rises d = RiseBelow d.next_row (ids d.rows)
+
+at-rises : (table : Ref) (f : Draft → Draft) (d : Draft) → Rises d → Rises (f d) → Rises (at_table table f d)
+at-rises table f d h k = go (is_ref d.at table) refl
+  where
+    go : (b : Bool) → is_ref d.at table ≡ b → Rises (at_table table f d)
+    go true e = rw e k
+    go false e = rw e h
+
+cells-rise : (f : Cells → Cells) (d : Draft) → Rises d → RiseBelow d.next_row (ids (map (λ (r : Row). record r { cells = f r.cells }) d.rows))
+cells-rise f d h = subst (RiseBelow d.next_row) (sym (same-ids (λ (r : Row). record r { cells = f r.cells }) d.rows (λ r. refl))) h
+
+altered-rises : (c : Change) (d : Draft) → Rises d → Rises (altered c d)
+altered-rises (change.AddColumn table column) d h = at-rises table (with_column column) d h (cells-rise (λ cells. cells ++ (column.field, column.initial) ∷ []) d h)
+altered-rises (change.DropColumn table field) d h = at-rises table (without_column field) d h (cells-rise (λ cells. filter (λ cell. not (cell.0 == field)) cells) d h)
+altered-rises (change.RenameColumn table field name) d h = at-rises table (renamed field name) d h h
+altered-rises (change.PromoteColumn table field ty) d h = at-rises table (promoted field ty) d h h
+altered-rises (change.SetDefault table field value) d h = at-rises table (with_default field value) d h h
+altered-rises (change.Insert table rows) d h = at-rises table (with_rows rows) d h h
+altered-rises (change.Delete table rows) d h =
+    at-rises table (without_rows rows) d h (rise-filter d.next_row (λ r. not (is_named rows (row_ref.Old r.id))) d.rows h)
+altered-rises (change.Update table rows set) d h =
+    at-rises table (with_updates rows set) d h (subst (RiseBelow d.next_row) (sym (same-ids (updated_row rows set) d.rows (updated-id rows set))) h)
+altered-rises (change.CreateSchema name) d h = h
+altered-rises (change.DropSchema schema) d h = h
+altered-rises (change.CreateTable schema name columns) d h = h
+altered-rises (change.DropTable table) d h = h
+altered-rises (change.Compact table) d h = h
+altered-rises (change.Flush table) d h = h
+
+abbrev RisesIf : Option Draft → Type 0
+RisesIf None = Unit {0}
+RisesIf (Some d) = Rises d
+
+after-rises : (own : List Change) (d : Draft) → Rises d → RisesIf (draft_after own d)
+after-rises [] d h = h
+after-rises (c ∷ own) d h = go (is_drop_of_table d.at c) refl (after-rises own (altered c d) (altered-rises c d h))
+  where
+    go : (b : Bool) → is_drop_of_table d.at c ≡ b → RisesIf (draft_after own (altered c d)) → RisesIf (draft_after (c ∷ own) d)
+    go true e rest = rw e tt
+    go false e rest = rw e rest
+
+onto-rises : (o : Option Draft) (ds : List Draft) → RisesIf o → AllByRecursion Rises ds → AllByRecursion Rises (cons_option o ds)
+onto-rises None ds h k = k
+onto-rises (Some d) ds h k = (h, k)
+
+old-rise : (own : List Change) (tables : List Table) → AllByRecursion HasRowIds tables → AllByRecursion Rises (filter_map (draft_after own) (map drafted tables))
+old-rise own [] h = tt
+old-rise own (t ∷ tables) h = onto-rises (draft_after own (drafted t)) (filter_map (draft_after own) (map drafted tables)) (after-rises own (drafted t) h.0) (old-rise own tables h.1)
+
+made-rise : (n : ℕ) (own : List Change) → AllByRecursion Rises (made_from n own)
+made-rise n [] = tt
+made-rise n (change.CreateTable schema name columns ∷ own) =
+    onto-rises (draft_after own (created n schema name columns)) (made_from (n + 1) own) (after-rises own (created n schema name columns) tt) (made-rise (n + 1) own)
+made-rise n (change.CreateSchema name ∷ own) = made-rise n own
+made-rise n (change.DropSchema schema ∷ own) = made-rise n own
+made-rise n (change.DropTable table ∷ own) = made-rise n own
+made-rise n (change.AddColumn table column ∷ own) = made-rise n own
+made-rise n (change.DropColumn table field ∷ own) = made-rise n own
+made-rise n (change.RenameColumn table field name ∷ own) = made-rise n own
+made-rise n (change.PromoteColumn table field ty ∷ own) = made-rise n own
+made-rise n (change.SetDefault table field value ∷ own) = made-rise n own
+made-rise n (change.Insert table rows ∷ own) = made-rise n own
+made-rise n (change.Delete table rows ∷ own) = made-rise n own
+made-rise n (change.Update table rows set ∷ own) = made-rise n own
+made-rise n (change.Compact table ∷ own) = made-rise n own
+made-rise n (change.Flush table ∷ own) = made-rise n own
+
+both-rise : (ds es : List Draft) → AllByRecursion Rises ds → AllByRecursion Rises es → AllByRecursion Rises (ds ++ es)
+both-rise [] es h k = k
+both-rise (d ∷ ds) es h k = (h.0, both-rise ds es h.1 k)
+
+settled-rise : (next : ℕ) (s : State) (own : List Change) (ds : List Draft) → AllByRecursion Rises ds → AllByRecursion HasRowIds (map (settled_table next (worked s own).created) ds)
+settled-rise next s own [] h = tt
+settled-rise next s own (d ∷ ds) h = (rise-append d.next_row d.rows (left d.fresh) h.0, settled-rise next s own ds h.1)
+
+pub row_ids_rise : RowIdsRise
+row_ids_rise s own h =
+    let drafts : AllByRecursion Rises (tables_after s own) = both-rise (filter_map (draft_after own) (map drafted s.tables)) (made_from 0 own) (old-rise own s.tables h) (made-rise 0 own) in
+    settled-rise s.next_catalog s own (worked s own).tables (subst (AllByRecursion Rises) (sym (by_table s own)) drafts)
