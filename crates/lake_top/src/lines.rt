@@ -6,10 +6,10 @@ ghost use Rattle.lake_top.specs.Script.{line_at, counts_after};
 ghost use Rattle.line_forms.specs.Forms as forms;
 ghost use Rattle.line_forms.specs.Lines as lines;
 
-use plain_model::{Answer, Reply, push_reply};
 use lake_types::Listed;
 use line_forms::{is_skipped, session_of, shorn, stmt_of};
 use plain_lake::Kept;
+use plain_model::{Answer, Reply, push_reply};
 use std::alloc::{AllocError, Global};
 
 /// The reply to a line. An `Err` changes nothing.

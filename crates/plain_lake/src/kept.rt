@@ -5,8 +5,8 @@ ghost use Rattle.plain_model.specs.Step as spec;
 ghost use Rattle.plain_lake.specs.Appended.{appended};
 
 use crate::plans::{creation_plan, insertion_plan, only, selection};
-use plain_model::{Answer, Change, Plan, Reply, State, StateList, Txn, Work, applied, worked};
 use lake_types::{CellList, ColumnDef, Listed, Stmt, TableName};
+use plain_model::{Answer, Change, Plan, Reply, State, StateList, Txn, Work, applied, worked};
 use std::alloc::{AllocError, Global};
 use std::marker::Model;
 

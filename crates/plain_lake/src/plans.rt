@@ -4,8 +4,8 @@ ghost use Rattle.plain_model.specs.Step as spec;
 use crate::columns::{can_create, columns_of};
 use crate::names::{schema_named, table_named};
 use crate::rows::{has_room, shown_rows, taken_rows};
-use plain_model::{Answer, Change, Draft, Plan, Ref, Reply, Table, Work, settled_table};
 use lake_types::{CellList, ColumnDef, Copied, Listed, TableName, Words};
+use plain_model::{Answer, Change, Draft, Plan, Ref, Reply, Table, Work, settled_table};
 use std::alloc::{AllocError, Global};
 
 /// A reply without rows.

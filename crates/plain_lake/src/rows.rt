@@ -2,8 +2,8 @@ ghost use Rattle.std.specs.Prelude.{◌≡◌, ◌-◌, ◌^◌, min, IfOk, map}
 ghost use Rattle.plain_model.specs.Step as spec;
 
 use crate::columns::is_bigint;
-use plain_model::{Change, Table, WordsList, row_text};
 use lake_types::{Cell, CellList, CellValues, Column, Listed, Value, Words, row_weight};
+use plain_model::{Change, Table, WordsList, row_text};
 use std::alloc::{AllocError, Global};
 
 /// The most that a transaction's inserted rows may weigh.
