@@ -64,6 +64,9 @@ day_known value.Null text h = absurd (h.0 refl)
 day_known (value.Date d) text h = sym (ap (option_map value.Date) (day_found d text h.1 h.3))
 day_known v text h = absurd (grind (arith, h.1))
 
+has_text : (d : ℤ) (text : List ℕ) → is_day d ≡ true → day_text d ≡ text → HasText ty.Date (value.Date d) text
+has_text d text h e = ((λ n. cc), h, tt, e)
+
 pub day_none : (text : List ℕ) → ((v : Value) → HasText ty.Date v text → ⊥) → None ≡ day_of text
 unfolding day_of
 day_none text nay = sym (ap (option_map value.Date) (none_among 3652059 (omega arith) text (λ d h e. nay (value.Date d) (has_text d text h e))))
