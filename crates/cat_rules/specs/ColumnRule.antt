@@ -14,7 +14,7 @@ use Rattle.lake_types.specs.declared.value.Value.TheVariants as value
 use Rattle.cat_rules.specs.Lookups.{IsFieldPast, HasRow, table_of}
 use Rattle.cat_rules.specs.Kept.{kept_of}
 use Rattle.cat_rules.specs.Places.{of_column, of_table}
-use Rattle.cat_rules.specs.Readable.{type_of}
+use Rattle.cat_texts.specs.Types.{type_of}
 use Rattle.cat_rules.specs.Rows.{Names, SomeOf}
 use Rattle.std.specs.List.{AllByRecursion}
 use Rattle.std.specs.Ordering.{is_lt}

@@ -15,7 +15,7 @@ use Rattle.inline_rows.specs.Allowed.{SpellsAllowed}
 use Rattle.inline_rows.specs.Laws.{Spells}
 use Rattle.cat_rules.specs.Lookups.{HasRow, column_of, stats_of_table}
 use Rattle.cat_rules.specs.Places.{of_inlined}
-use Rattle.cat_rules.specs.Readable.{type_of}
+use Rattle.cat_texts.specs.Types.{type_of}
 use Rattle.cat_rules.specs.Rows.{Names, SomeOf}
 use Rattle.std.specs.Ordering.{is_lt}
 use Rattle.cat_rows.specs.Keys.{inlined_row_key}

@@ -25,6 +25,6 @@ pub use limits::{MAX_COUNTER, MAX_FIELD_ID};
 pub use lookup::{is_field_past, newest_row, rows_of_column};
 pub use meeting::meets_table;
 pub use order::sooner;
-pub use readable::{is_unreadable, type_of};
+pub use readable::is_unreadable;
 pub use refer::{Refers, first_unmatched};
 pub use rule::{RowRule, first_bad};

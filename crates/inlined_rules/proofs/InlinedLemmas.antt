@@ -31,7 +31,7 @@ use Rattle.cat_rules.specs.IntervalRule.{IsIntervalBad}
 use Rattle.cat_rules.specs.Kept.{kept_of, AtSome}
 use Rattle.cat_rules.specs.Lookups.{HasRow, column_of, table_of}
 use Rattle.cat_rules.specs.Places.{of_inlined}
-use Rattle.cat_rules.specs.Readable.{type_of, types}
+use Rattle.cat_texts.specs.Types.{type_of, types}
 use Rattle.cat_rules.specs.Rows.{Names, SomeOf}
 use Rattle.cat_rules.proofs.DatedLemmas.{dated_columns, dated_inlined, none_missing}
 use Rattle.cat_rules.proofs.FirstLemmas.{SomeOf_like, all_like, first_like, some_in}

@@ -2,7 +2,7 @@
 use Rattle.std.specs.Prelude.{List, filter, map}
 use Rattle.cat_rows.specs.declared.schemas.ColumnRow.{ColumnRow}
 use Rattle.lake_types.specs.declared.value.ColType.{ColType}
-use Rattle.cat_rules.specs.Readable.{types}
+use Rattle.cat_texts.specs.Types.{types}
 use Rattle.inlined_rules.specs.Terms.{is_of_type, term_of}
 use Rattle.inlined_rules.specs.declared.term_index.TypedTerms.{TypedTerms}
 use Rattle.inlined_rules.specs.declared.terms.Term.{Term}

@@ -8,7 +8,7 @@ use Rattle.cat_rows.specs.declared.schemas.ColumnRow.{ColumnRow}
 use Rattle.lake_types.specs.contracts.value.ColType.{the_type}
 use Rattle.lake_types.specs.declared.value.ColType.{ColType}
 use Rattle.cat_rules.specs.Lookups.{last}
-use Rattle.cat_rules.specs.Readable.{type_of}
+use Rattle.cat_texts.specs.Types.{type_of}
 use Rattle.cat_tables.specs.declared.interval.Interval.{Interval}
 use Rattle.inlined_rules.specs.declared.terms.Term.{Term}
 

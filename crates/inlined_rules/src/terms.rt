@@ -6,8 +6,8 @@ ghost use Rattle.cat_rows.specs.Keys.{column_key};
 ghost use Rattle.inlined_rules.specs.Terms as spec;
 
 use cat_rows::ColumnRow;
-use cat_rules::type_of;
 use cat_tables::{Interval, is_before};
+use cat_texts::type_of;
 use lake_types::{ColType, NoMemory};
 use std::alloc::Global;
 use std::marker::Model;

@@ -4,7 +4,7 @@ use Rattle.lake_types.specs.Texts.{HasText}
 use Rattle.lake_types.specs.declared.value.ColType.{ColType}
 use Rattle.lake_types.specs.declared.value.Value.{Value}
 use Rattle.lake_types.proofs.ValueLemmas.{one_value}
-use Rattle.cat_rules.specs.Readable.{type_of}
+use Rattle.cat_texts.specs.Types.{type_of}
 use Rattle.cat_rules.specs.ColumnRule.{IsDefault, IsShort}
 
 pub default_decides : (type text : List ℕ) (d : Option (List ℕ)) (t : ColType) (v : Value) (b : Bool) → d ≡ Some text → type_of type ≡ Some t → HasText t v text → Decides b (IsShort v)

@@ -15,8 +15,9 @@ use crate::columnless::first_columnless_table;
 use crate::crowded_columns::first_crowded_column;
 use crate::defaults::is_default;
 use cat_rows::{CatRows, ColumnRow, Key};
-use cat_rules::{CheckedRule, first_checked, is_field_past, kept_of, meets_table, sooner, type_of};
+use cat_rules::{CheckedRule, first_checked, is_field_past, kept_of, meets_table, sooner};
 use cat_tables::find_row;
+use cat_texts::type_of;
 use lake_types::NoMemory;
 use std::alloc::Global;
 

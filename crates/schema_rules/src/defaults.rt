@@ -2,7 +2,7 @@ ghost use Rattle.std.specs.Prelude.{IfOk};
 ghost use Rattle.std.specs.Bool.{Decides};
 ghost use Rattle.cat_rules.specs.ColumnRule as spec;
 
-use cat_rules::type_of;
+use cat_texts::type_of;
 use lake_types::{BadValue, NoMemory, Value, Words, value_of};
 use std::alloc::{AllocError, Global};
 

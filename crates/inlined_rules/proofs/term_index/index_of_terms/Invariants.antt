@@ -1,5 +1,5 @@
 use Rattle.std.proofs.Common.{◌≡◌, map, take}
-use Rattle.cat_rules.specs.Readable.{types}
+use Rattle.cat_texts.specs.Types.{types}
 use Rattle.inlined_rules.specs.TermIndex.{typed_terms}
 use Rattle.inlined_rules.proofs.term_index.index_of_terms.Given as goal
 

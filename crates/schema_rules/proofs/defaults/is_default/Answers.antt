@@ -1,5 +1,5 @@
 use Rattle.std.proofs.Common.{◌≡◌, Some, rules}
-use Rattle.cat_rules.specs.Readable.{type_of}
+use Rattle.cat_texts.specs.Types.{type_of}
 use Rattle.schema_rules.proofs.DefaultLemmas.{default_decides}
 use Rattle.schema_rules.proofs.defaults.is_default.Goals as goal
 

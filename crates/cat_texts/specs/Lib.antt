@@ -1,0 +1,4 @@
+pub mod Types
+pub mod Spelled
+pub mod Written
+pub mod Laws
