@@ -19,7 +19,7 @@ place_found sheet field place column lt is has left =
     let found : column_of (column ∷ drop (suc place) sheet) field ≡ Some column = grind (arith, has) in
     slice_get_read sheet (length sheet) place column refl lt is ∙ sym (left ∙ ap (λ (s : List SheetColumn). column_of s field) first ∙ found)
 
-same_at : {X Y Z : Type 0} (f : X → Z) (g : Y → Z) (xs : List X) (ys : List Y) (i : ℕ) (d : X) (e : Y) → map f xs ≡ map g ys → i < length xs → i < length ys
+pub same_at : {X Y Z : Type 0} (f : X → Z) (g : Y → Z) (xs : List X) (ys : List Y) (i : ℕ) (d : X) (e : Y) → map f xs ≡ map g ys → i < length xs → i < length ys
     → f (get_or xs i d) ≡ g (get_or ys i e)
 same_at f g [] ys i d e same lt short = absurd (omega arith)
 same_at f g (x ∷ xs) [] i d e same lt short = absurd (omega arith)

@@ -28,7 +28,8 @@ pub fn lay(alloc: Global, sheet: &Sheet, columns: &[Column]) -> Result<RowList, 
     Ok(rows)
 }
 
-fn first_fault(sheet: &[SheetColumn], columns: &[Column]) -> Option<LayFault>
+/// The fault of the first column in order that has one.
+pub fn first_fault(sheet: &[SheetColumn], columns: &[Column]) -> Option<LayFault>
     ensures { result ≡ spec.first_fault sheet.now columns.now }
 {
     for column in columns {
@@ -63,7 +64,7 @@ fn agrees(have: ColType, want: ColType) -> bool
 
 /// The place of the sheet's column of a field.
 #[tactic(auto, using(crate::proofs::LayLemmas::place_found))]
-fn place_of(sheet: &[SheetColumn], field: u32) -> Option<usize>
+pub fn place_of(sheet: &[SheetColumn], field: u32) -> Option<usize>
     ensures column { spec.column_at sheet.now result ≡ spec.column_of sheet.now field }
     ensures within { IfSome result (λ place. place < length sheet.now) }
 {
@@ -94,7 +95,7 @@ fn laid_rows(alloc: Global, sheet: &Sheet, columns: &[Column]) -> Result<RowList
 }
 
 /// Where the sheet has each column, so that this is looked up once and not for each row.
-fn places_of(
+pub fn places_of(
     alloc: Global,
     sheet: &[SheetColumn],
     columns: &[Column],
@@ -122,7 +123,8 @@ fn row_cells(
     cells_of(alloc, sheet, columns, places, row)
 }
 
-fn cells_of(
+/// The same cells, by the steps of each column.
+pub fn cells_of(
     alloc: Global,
     sheet: &[SheetColumn],
     columns: &[Column],
@@ -142,7 +144,7 @@ fn cells_of(
 }
 
 /// What stands in a row of the sheet's column at a place; else `initial`.
-fn value_at<'a>(
+pub fn value_at<'a>(
     sheet: &'a [SheetColumn],
     place: Option<usize>,
     row: u64,

@@ -6,4 +6,4 @@ mod fault;
 mod laying;
 
 pub use fault::LayFault;
-pub use laying::lay;
+pub use laying::{cells_of, first_fault, lay, place_of, places_of, value_at};
