@@ -71,9 +71,7 @@ pub fn column_row(
 fn default_text(alloc: Global, value: &Value) -> Result<Option<Words>, NoMemory>
     requires { fits_some value.now ≡ true }
     ensures text { IfOk result (λ text. text ≡ spec.default_text value.now) }
-    ensures back {
-        IfOk result (λ text. (ty : ColType) → fits value.now ty ≡ true → IsValueOf ty text value.now)
-    }
+    ensures back { IfOk result (λ text. (ty : ColType) → fits value.now ty ≡ true → IsValueOf ty text value.now) }
 {
     match value {
         Value::Null => Ok(None),

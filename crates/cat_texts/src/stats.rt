@@ -63,9 +63,7 @@ pub fn stats_row(alloc: Global, file: u64, stats: &ColStats) -> Result<FileColum
 fn bound_text(alloc: Global, bound: &Option<Value>) -> Result<Option<Words>, NoMemory>
     requires { IfSome bound.now bounds.HasText }
     ensures text { IfOk result (λ text. text ≡ bounds.bound_text bound.now) }
-    ensures back {
-        IfOk result (λ text. (ty : ColType) → IfSome bound.now (Fits ty) → IsBoundOf ty text bound.now)
-    }
+    ensures back { IfOk result (λ text. (ty : ColType) → IfSome bound.now (Fits ty) → IsBoundOf ty text bound.now) }
 {
     match bound {
         Some(value) => Ok(Some(text_of(alloc, value)?)),
