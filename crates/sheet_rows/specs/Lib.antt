@@ -1,0 +1,4 @@
+pub mod Sheets
+pub mod Live
+pub mod Rows
+pub mod Laws
