@@ -9,12 +9,9 @@ use Rattle.sheet_rows.specs.Laws.{PlacesRise}
 use Rattle.sheet_rows.specs.Live.{are_numbers, names_only, number_in, path_field, place_field, places_in, rise_within}
 use Rattle.sheet_rows.proofs.PlaceLemmas.{all_below, all_rise}
 
-some_in : {A : Type 0} {a b : A} → Some a ≡ Some b → a ≡ b
-some_in e = cc
-
 -- where places are told, they rise
 rising : (a b c d : Bool) (xs ys : List ℕ) → cond (a && (b && (c && d))) (Some xs) None ≡ Some ys → (d ≡ true) × (xs ≡ ys)
-rising true true true true xs ys e = (refl, some_in e)
+rising true true true true xs ys e = (refl, cc)
 rising true true true false xs ys e = absurd (cc e)
 rising true true false d xs ys e = absurd (cc e)
 rising true false c d xs ys e = absurd (cc e)
