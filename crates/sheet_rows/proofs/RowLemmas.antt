@@ -1,8 +1,9 @@
 -- The rows of a sheet, one by one.
-use Rattle.std.proofs.Common.{◌≡◌, ◌<◌, ◌==◌, ℕ, suc, List, ◌∷◌, length, map, drop, get_or, All, Option, Some, drop-cons, sym, ap, subst, ◌∙◌, arith}
+use Rattle.std.proofs.Common.{refl, ◌≡◌, ◌<◌, ◌==◌, ℕ, suc, List, ◌∷◌, length, map, drop, get_or, All, Option, Some, drop-cons, sym, ap, subst, ◌∙◌, arith, []}
 use Rattle.std.specs.List.{range_with_len, slice_index_or}
 use Rattle.std.specs.Prelude.{if◌then◌else◌}
 use Rattle.std.proofs.lemmas.List.{get_or-map, length-map}
+use Rattle.std.proofs.lemmas.List.Elements.{All-head, All-map, All-tail}
 use Rattle.std.proofs.lemmas.List.FromFn.{get_or-range_with_len, length-range_with_len}
 use Rattle.field_map.proofs.LayLemmas.{same_at}
 use Rattle.field_map.specs.Laid.{ArePlaces, column_at, column_of}
@@ -55,6 +56,34 @@ left_rows from those new columns sheet gone is =
     ap (λ k. rows_of from k columns sheet) is ∙ map-left_from (row_at from columns sheet.columns) 0 gone (places_of those sheet.rows)
 
 pub ruleset left = (count, left_known, left_rows)
+
+-- ---- those with some numbers
+
+all_chosen : (places those : List ℕ) (rows : ℕ) → All (λ place. place < rows) places → All (λ at. at < length places) those → All (λ place. place < rows) (map (λ at. slice_index_or places at 0) those)
+all_chosen places those rows within there = All-map (λ place. place < rows) (λ at. slice_index_or places at 0) those (λ k d lt. within (slice_index_or those k d) 0 (there k d lt))
+
+pub only_known : (sheet : Sheet) (columns : List Column) (at : List (Option ℕ)) (from : RowIds) (those new : Kept) (numbers : List ℕ) → AreKnown sheet columns at from those
+    → All (λ number. number < length (places_of those sheet.rows)) numbers → new ≡ kept.These (map (λ number. slice_index_or (places_of those sheet.rows) number 0) numbers)
+    → AreKnown sheet columns at from new
+only_known sheet columns at from those new numbers known there is = record {
+  columns = known.columns;
+  ids = known.ids;
+  places = subst (λ k. All (λ place. place < sheet.rows) (places_of k sheet.rows)) (sym is) (all_chosen (places_of those sheet.rows) numbers sheet.rows known.places there);
+}
+
+each_chosen : {X : Type 0} (f : ℕ → X) (places numbers : List ℕ) (other : X) → All (λ number. number < length places) numbers
+    → map f (map (λ number. slice_index_or places number 0) numbers) ≡ map (λ number. slice_index_or (map f places) number other) numbers
+each_chosen f places [] other there = refl
+each_chosen f places (n ∷ numbers) other there =
+    let lt : n < length places = All-head (λ number. number < length places) n numbers there in
+    ap (λ x. x ∷ map f (map (λ number. slice_index_or places number 0) numbers)) (sym (get_or-map f places n 0 other lt))
+    ∙ ap (λ l. slice_index_or (map f places) n other ∷ l) (each_chosen f places numbers other (All-tail (λ number. number < length places) n numbers there))
+
+pub only_rows : (from : RowIds) (those new : Kept) (columns : List Column) (sheet : Sheet) (numbers : List ℕ) (other : Row) → All (λ number. number < length (places_of those sheet.rows)) numbers
+    → new ≡ kept.These (map (λ number. slice_index_or (places_of those sheet.rows) number 0) numbers)
+    → rows_of from new columns sheet ≡ map (λ number. slice_index_or (rows_of from those columns sheet) number other) numbers
+only_rows from those new columns sheet numbers other there is =
+    ap (λ k. rows_of from k columns sheet) is ∙ each_chosen (row_at from columns sheet.columns) (places_of those sheet.rows) numbers other there
 
 -- ---- the cell of a field
 

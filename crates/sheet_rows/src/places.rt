@@ -1,4 +1,4 @@
-ghost use Rattle.std.specs.Prelude.{◌≡◌, ◌<◌, ℕ, drop, length, true, IfOk};
+ghost use Rattle.std.specs.Prelude.{◌≡◌, ◌<◌, ℕ, All, drop, length, map, true, IfOk};
 ghost use Rattle.std.specs.List.{slice_index_or};
 ghost use Rattle.sheet_rows.specs.Live.{begins, left_from, rise_within};
 ghost use Rattle.sheet_rows.specs.Rows.{places_of};
@@ -85,4 +85,30 @@ pub(crate) fn kept_without(
 {
     let left = left_of(alloc, &kept, rows, gone)?;
     Ok(Kept::These(left))
+}
+
+/// The places of some of the rows, by their numbers among those that are there.
+fn places_at(alloc: Global, kept: &Kept, rows: u64, those: &[u64]) -> Result<Places, NoMemory>
+    requires { All (λ at. at < length (places_of kept.now rows)) those.now }
+    ensures { IfOk result (λ places. places ≡ map (λ at. slice_index_or (places_of kept.now rows) at 0) those.now) }
+{
+    let mut places = Places::new(alloc);
+    for at in those {
+        places.push(place_at(kept, rows, *at))?;
+    }
+    Ok(places)
+}
+
+/// Which of the rows are there where only those with some numbers are.
+pub(crate) fn kept_only(
+    alloc: Global,
+    kept: Kept,
+    rows: u64,
+    those: &[u64],
+) -> Result<Kept, NoMemory>
+    requires { All (λ at. at < length (places_of kept rows)) those.now }
+    ensures { IfOk result (λ only. only ≡ These (map (λ at. slice_index_or (places_of kept rows) at 0) those.now)) }
+{
+    let places = places_at(alloc, &kept, rows, those)?;
+    Ok(Kept::These(places))
 }

@@ -1,4 +1,4 @@
-ghost use Rattle.std.specs.Prelude.{◌≡◌, ◌<◌, length, map, true, IfOk};
+ghost use Rattle.std.specs.Prelude.{◌≡◌, ◌<◌, All, length, map, true, IfOk};
 ghost use Rattle.std.specs.List.{slice_index_or};
 ghost use Rattle.std.specs.Option.{option_copied};
 ghost use Rattle.field_map.specs.Laid.{ArePlaces};
@@ -10,7 +10,7 @@ ghost use Rattle.sheet_rows.specs.Rows as spec;
 ghost use Rattle.sheet_rows.specs.declared.places.Kept.TheVariants as kept;
 
 use crate::ids::{RowIds, id_at};
-use crate::places::{Kept, count_of, kept_without, place_at};
+use crate::places::{Kept, count_of, kept_only, kept_without, place_at};
 use field_map::{cells_of, places_of, value_at};
 use lake_types::{Column, ColumnList, NoMemory, Row, RowList, Sheet, SheetColumn, Value};
 use std::alloc::Global;
@@ -160,6 +160,29 @@ impl SheetRows {
             kept,
         } = self;
         let kept = kept_without(alloc, kept, sheet.rows, gone)?;
+        Ok(SheetRows {
+            sheet,
+            columns,
+            at,
+            ids,
+            kept,
+        })
+    }
+
+    /// The rows with some numbers, in this order.
+    #[tactic(auto, using(crate::proofs::RowLemmas::count))]
+    pub fn only(self, alloc: Global, those: &[u64]) -> Result<SheetRows, NoMemory>
+        requires { All (λ at. at < length self) those.now }
+        ensures { IfOk result (λ rows. (other : RowOf) → rows ≡ map (λ at. slice_index_or self at other) those.now) }
+    {
+        let SheetRows {
+            sheet,
+            columns,
+            at,
+            ids,
+            kept,
+        } = self;
+        let kept = kept_only(alloc, kept, sheet.rows, those)?;
         Ok(SheetRows {
             sheet,
             columns,
