@@ -78,7 +78,8 @@ fn places_in(
     limit: u64,
     column: Option<&SheetColumn>,
 ) -> Result<Option<Vec<u64>>, NoMemory>
-    ensures { IfOk result (λ made. option_map (λ places. places.items) made ≡ spec.places_below limit (option_copied column.entry)) }
+    ensures { IfOk result (λ made. option_map (λ places. places.items) made
+        ≡ spec.places_below limit (option_copied column.entry)) }
 {
     let Some(column) = column else {
         return Ok(None);
@@ -95,9 +96,9 @@ fn places_in(
     }
 }
 
-/// The places that a delete file lists of a data file with this path and so many rows. None where the delete file is
-/// damaged: it has another number of rows than the catalogue says, a row that names another path, or places that don't
-/// rise below the data file's rows.
+/// The places that a delete file lists of a data file with this path and so many rows. None where the delete
+/// file is damaged: it has another number of rows than the catalogue says, a row that names another path, or
+/// places that don't rise below the data file's rows.
 pub fn deleted_in(
     alloc: Global,
     path: &str,
@@ -105,7 +106,8 @@ pub fn deleted_in(
     count: u64,
     sheet: &Sheet,
 ) -> Result<Option<Vec<u64>>, NoMemory>
-    ensures { IfOk result (λ found. option_map (λ places. places.items) found ≡ spec.deleted_in (record { path = path.now; rows = rows; count = count }) sheet.now) }
+    ensures { IfOk result (λ found. option_map (λ places. places.items) found
+        ≡ spec.deleted_in (record { path = path.now; rows = rows; count = count }) sheet.now) }
 {
     let columns = sheet.columns.as_slice();
     if sheet.rows != count || !names_only(path, column_of(columns, PATH_FIELD)) {

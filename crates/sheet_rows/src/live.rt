@@ -45,7 +45,8 @@ fn is_as_stated(stated: &Stated, columns: &[Column], sheet: &Sheet) -> bool
 /// The column of row ids, where it is one of numbers.
 fn told_ids(sheet: &Sheet) -> Option<RowIds>
     requires { All (sheets.HasCells sheet.now.rows) sheet.now.columns }
-    ensures rows { (columns : List ColumnOf) → option_map (λ ids. rows_of ids kept.All columns sheet.now) result ≡ spec.laid_rows None columns sheet.now }
+    ensures rows { (columns : List ColumnOf) → option_map (λ ids. rows_of ids kept.All columns sheet.now) result
+        ≡ spec.laid_rows None columns sheet.now }
     ensures small { IfSome result (λ ids. AreSmall ids sheet.now.rows) }
 {
     let columns = sheet.columns.as_slice();
@@ -62,7 +63,8 @@ fn told_ids(sheet: &Sheet) -> Option<RowIds>
 fn row_ids(first_row: Option<u64>, sheet: &Sheet) -> Option<RowIds>
     requires cells { All (sheets.HasCells sheet.now.rows) sheet.now.columns }
     requires ids { IfSome first_row (λ first. first + sheet.now.rows ≤ MAX_COUNTER) }
-    ensures rows { (columns : List ColumnOf) → option_map (λ ids. rows_of ids kept.All columns sheet.now) result ≡ spec.laid_rows first_row columns sheet.now }
+    ensures rows { (columns : List ColumnOf) → option_map (λ ids. rows_of ids kept.All columns sheet.now) result
+        ≡ spec.laid_rows first_row columns sheet.now }
     ensures small { IfSome result (λ ids. AreSmall ids sheet.now.rows) }
 {
     match first_row {
@@ -71,8 +73,8 @@ fn row_ids(first_row: Option<u64>, sheet: &Sheet) -> Option<RowIds>
     }
 }
 
-/// The rows of a sheet with their ids, laid into a table's columns. None where the file is damaged: the sheet is not as
-/// the catalogue says, or can't be laid, or a row has no id.
+/// The rows of a sheet with their ids, laid into a table's columns. None where the file is damaged: the sheet is
+/// not as the catalogue says, or can't be laid, or a row has no id.
 pub fn live_of(
     alloc: Global,
     sheet: Sheet,

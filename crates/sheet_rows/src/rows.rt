@@ -16,8 +16,8 @@ use lake_types::{Column, ColumnList, NoMemory, Row, RowList, Sheet, SheetColumn,
 use std::alloc::Global;
 use std::marker::Model;
 
-/// Rows that lie by columns, as their file has them: those of a sheet, laid into a table's columns. Contracts see the
-/// list of rows. No cell is copied before a row is asked for.
+/// Rows that lie by columns, as their file has them: those of a sheet, laid into a table's columns. Contracts see
+/// the list of rows. No cell is copied before a row is asked for.
 #[derive(Drop)]
 pub struct SheetRows {
     sheet: Sheet,

@@ -52,8 +52,8 @@ fn file_columns(
     Ok(made)
 }
 
-/// The sheet of a table's rows: its columns in order, each with a cell for each row, which is the initial default where
-/// the row lacks one. Each cell is copied once.
+/// The sheet of a table's rows: its columns in order, each with a cell for each row, which is the initial default
+/// where the row lacks one. Each cell is copied once.
 pub fn sheet_of(alloc: Global, columns: &[Column], rows: &[CellValues]) -> Result<Sheet, NoMemory>
     ensures { IfOk result (λ sheet. sheet ≡ spec.sheet_of columns.now rows.now) }
 {
