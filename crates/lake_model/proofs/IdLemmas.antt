@@ -14,27 +14,12 @@ use Rattle.lake_model.specs.declared.change.Ref.{Ref}
 use Rattle.lake_model.specs.declared.change.RowRef.{RowRef}
 use Rattle.lake_model.specs.declared.change.RowRef.TheVariants as row_ref
 use Rattle.lake_model.proofs.ApplyLemmas.{by_table}
+use Rattle.lake_model.proofs.RiseLemmas.{rise-filter}
 
 abbrev ids : List Row → List ℕ
 ids rows = map (λ (r : Row). r.id) rows
 
 -- ---- lists of ids
-
-past-filter : (n : ℕ) (p : Row → Bool) (rows : List Row) → AllByRecursion (λ y. n < y) (ids rows) → AllByRecursion (λ y. n < y) (ids (filter p rows))
-past-filter n p [] h = h
-past-filter n p (r ∷ rows) h = go (p r) refl (past-filter n p rows h.1)
-  where
-    go : (b : Bool) → p r ≡ b → AllByRecursion (λ y. n < y) (ids (filter p rows)) → AllByRecursion (λ y. n < y) (ids (filter p (r ∷ rows)))
-    go true e rest = rw e (h.0, rest)
-    go false e rest = rw e rest
-
-rise-filter : (limit : ℕ) (p : Row → Bool) (rows : List Row) → RiseBelow limit (ids rows) → RiseBelow limit (ids (filter p rows))
-rise-filter limit p [] h = h
-rise-filter limit p (r ∷ rows) h = go (p r) refl (past-filter r.id p rows h.1) (rise-filter limit p rows h.2)
-  where
-    go : (b : Bool) → p r ≡ b → AllByRecursion (λ y. r.id < y) (ids (filter p rows)) → RiseBelow limit (ids (filter p rows)) → RiseBelow limit (ids (filter p (r ∷ rows)))
-    go true e past rest = rw e (h.0, past, rest)
-    go false e past rest = rw e rest
 
 same-ids : (f : Row → Row) (rows : List Row) → ((r : Row) → (f r).id ≡ r.id) → ids (map f rows) ≡ ids rows
 same-ids f [] h = refl
@@ -88,7 +73,7 @@ altered-rises (change.PromoteColumn table field ty) d h = at-rises table (promot
 altered-rises (change.SetDefault table field value) d h = at-rises table (with_default field value) d h h
 altered-rises (change.Insert table rows) d h = at-rises table (with_rows rows) d h h
 altered-rises (change.Delete table rows) d h =
-    at-rises table (without_rows rows) d h (rise-filter d.next_row (λ r. not (is_named rows (row_ref.Old r.id))) d.rows h)
+    at-rises table (without_rows rows) d h (rise-filter (λ (r : Row). r.id) d.next_row (λ r. not (is_named rows (row_ref.Old r.id))) d.rows h)
 altered-rises (change.Update table rows set) d h =
     at-rises table (with_updates rows set) d h (subst (RiseBelow d.next_row) (sym (same-ids (updated_row rows set) d.rows (updated-id rows set))) h)
 altered-rises (change.CreateSchema name) d h = h

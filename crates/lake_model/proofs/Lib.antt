@@ -1,4 +1,6 @@
 pub mod ApplyLemmas
+pub mod CatalogLemmas
+pub mod CreationLemmas
 pub mod ExampleLemmas
 pub mod IdLemmas
 pub mod KindLemmas
@@ -6,5 +8,6 @@ pub mod LayLemmas
 pub mod LineLemmas
 pub mod MarkLemmas
 pub mod PlaceLemmas
+pub mod RiseLemmas
 pub mod ReplayLemmas
 pub mod SpareLemmas

@@ -80,3 +80,25 @@ HasRowIds t = RiseBelow t.next_row (map (λ (r : Row). r.id) t.rows)
 -- so it is of the new lake, and a list keeps it
 abbrev pub RowIdsRise : Type 0
 RowIdsRise = (s : State) (own : List Change) → AllByRecursion HasRowIds s.tables → AllByRecursion HasRowIds (apply s own).tables
+
+-- ---- catalogue ids
+
+-- no number stands in both lists
+abbrev pub AreApart : List ℕ → List ℕ → Type 0
+AreApart xs ys = AllByRecursion (λ x. AllByRecursion (λ y. x ≢ y) ys) xs
+
+abbrev pub schema_ids : State → List ℕ
+schema_ids s = map (λ (x : SchemaName). x.id) s.schemas
+
+abbrev pub table_ids : State → List ℕ
+table_ids s = map (λ (t : Table). t.id) s.tables
+
+-- the ids of schemas rise, and so do those of tables; all lie below the next one, and no schema and table have one id
+pub record HasCatalogIds (s : State) : Type 0 where
+  pub schemas : RiseBelow s.next_catalog (schema_ids s)
+  pub tables : RiseBelow s.next_catalog (table_ids s)
+  pub apart : AreApart (schema_ids s) (table_ids s)
+
+-- a list keeps that, whatever it does
+abbrev pub CatalogIdsRise : Type 0
+CatalogIdsRise = (s : State) (own : List Change) → HasCatalogIds s → HasCatalogIds (apply s own)

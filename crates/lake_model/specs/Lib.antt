@@ -14,5 +14,6 @@ pub mod Fits
 pub mod History
 pub mod Examples
 pub mod ByTable
+pub mod Creations
 pub mod Laws
 pub mod Placed

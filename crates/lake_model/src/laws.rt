@@ -1,6 +1,7 @@
 //! What holds of the plain lake. Each function's contract is a law, and its body is empty.
 
-ghost use Rattle.lake_model.specs.Laws.{GoesByTable, KindsAreInOrder, LaysOnce, LossesHaveTexts, LostLinesAreShown, RowIdsRise, StepsLoseNothing, TextsAreReplays};
+ghost use Rattle.lake_model.specs.Laws.{CatalogIdsRise, GoesByTable, HasCatalogIds, KindsAreInOrder, LaysOnce, LossesHaveTexts, LostLinesAreShown, RowIdsRise, StepsLoseNothing, TextsAreReplays};
+ghost use Rattle.lake_model.specs.State.{empty_state};
 
 /// The text of a replay shows which of its lines were lost, so that nothing of it is chosen.
 pub fn lost_lines_are_shown()
@@ -30,4 +31,11 @@ pub fn kinds_stand_in_order()
 /// The ids of a table's rows rise and lie below its next one, and a list keeps that.
 pub fn row_ids_rise()
     ensures { RowIdsRise }
+{}
+
+/// The ids of schemas rise, and so do those of tables. All lie below the next one, and no schema and table have one id. So it
+/// is of the new lake, and a list keeps it.
+pub fn catalog_ids_rise()
+    ensures new { HasCatalogIds empty_state }
+    ensures kept { CatalogIdsRise }
 {}
