@@ -13,8 +13,8 @@ use Rattle.lake_model.specs.declared.change.Change.TheVariants as change
 use Rattle.lake_model.specs.declared.change.Ref.{Ref}
 use Rattle.lake_model.specs.declared.change.RowRef.{RowRef}
 use Rattle.lake_model.specs.declared.change.RowRef.TheVariants as row_ref
-use Rattle.lake_model.proofs.ApplyLemmas.{by_table}
 use Rattle.lake_model.proofs.RiseLemmas.{rise-filter}
+use Rattle.lake_model.proofs.TableLemmas.{all-mapped, at-holds, drafts-hold}
 
 abbrev ids : List Row → List ℕ
 ids rows = map (λ (r : Row). r.id) rows
@@ -55,81 +55,25 @@ rise-append n (r ∷ rows) fresh h = (omega (arith, h.0), past-append r.id n row
 abbrev Rises : Draft → Type 0
 Rises d = RiseBelow d.next_row (ids d.rows)
 
-at-rises : (table : Ref) (f : Draft → Draft) (d : Draft) → Rises d → Rises (f d) → Rises (at_table table f d)
-at-rises table f d h k = go (is_ref d.at table) refl
-  where
-    go : (b : Bool) → is_ref d.at table ≡ b → Rises (at_table table f d)
-    go true e = rw e k
-    go false e = rw e h
-
 cells-rise : (f : Cells → Cells) (d : Draft) → Rises d → RiseBelow d.next_row (ids (map (λ (r : Row). record r { cells = f r.cells }) d.rows))
 cells-rise f d h = subst (RiseBelow d.next_row) (sym (same-ids (λ (r : Row). record r { cells = f r.cells }) d.rows (λ r. refl))) h
 
 altered-rises : (c : Change) (d : Draft) → Rises d → Rises (altered c d)
-altered-rises (change.AddColumn table column) d h = at-rises table (with_column column) d h (cells-rise (λ cells. cells ++ (column.field, column.initial) ∷ []) d h)
-altered-rises (change.DropColumn table field) d h = at-rises table (without_column field) d h (cells-rise (λ cells. filter (λ cell. not (cell.0 == field)) cells) d h)
-altered-rises (change.RenameColumn table field name) d h = at-rises table (renamed field name) d h h
-altered-rises (change.PromoteColumn table field ty) d h = at-rises table (promoted field ty) d h h
-altered-rises (change.SetDefault table field value) d h = at-rises table (with_default field value) d h h
-altered-rises (change.Insert table rows) d h = at-rises table (with_rows rows) d h h
+altered-rises (change.AddColumn table column) d h = at-holds Rises table (with_column column) d h (cells-rise (λ cells. cells ++ (column.field, column.initial) ∷ []) d h)
+altered-rises (change.DropColumn table field) d h = at-holds Rises table (without_column field) d h (cells-rise (λ cells. filter (λ cell. not (cell.0 == field)) cells) d h)
+altered-rises (change.RenameColumn table field name) d h = at-holds Rises table (renamed field name) d h h
+altered-rises (change.PromoteColumn table field ty) d h = at-holds Rises table (promoted field ty) d h h
+altered-rises (change.SetDefault table field value) d h = at-holds Rises table (with_default field value) d h h
+altered-rises (change.Insert table rows) d h = at-holds Rises table (with_rows rows) d h h
 altered-rises (change.Delete table rows) d h =
-    at-rises table (without_rows rows) d h (rise-filter (λ (r : Row). r.id) d.next_row (λ r. not (is_named rows (row_ref.Old r.id))) d.rows h)
+    at-holds Rises table (without_rows rows) d h (rise-filter (λ (r : Row). r.id) d.next_row (λ r. not (is_named rows (row_ref.Old r.id))) d.rows h)
 altered-rises (change.Update table rows set) d h =
-    at-rises table (with_updates rows set) d h (subst (RiseBelow d.next_row) (sym (same-ids (updated_row rows set) d.rows (updated-id rows set))) h)
-altered-rises (change.CreateSchema name) d h = h
-altered-rises (change.DropSchema schema) d h = h
-altered-rises (change.CreateTable schema name columns) d h = h
-altered-rises (change.DropTable table) d h = h
-altered-rises (change.Compact table) d h = h
-altered-rises (change.Flush table) d h = h
-
-abbrev RisesIf : Option Draft → Type 0
-RisesIf None = Unit {0}
-RisesIf (Some d) = Rises d
-
-after-rises : (own : List Change) (d : Draft) → Rises d → RisesIf (draft_after own d)
-after-rises [] d h = h
-after-rises (c ∷ own) d h = go (is_drop_of_table d.at c) refl (after-rises own (altered c d) (altered-rises c d h))
-  where
-    go : (b : Bool) → is_drop_of_table d.at c ≡ b → RisesIf (draft_after own (altered c d)) → RisesIf (draft_after (c ∷ own) d)
-    go true e rest = rw e tt
-    go false e rest = rw e rest
-
-onto-rises : (o : Option Draft) (ds : List Draft) → RisesIf o → AllByRecursion Rises ds → AllByRecursion Rises (cons_option o ds)
-onto-rises None ds h k = k
-onto-rises (Some d) ds h k = (h, k)
-
-old-rise : (own : List Change) (tables : List Table) → AllByRecursion HasRowIds tables → AllByRecursion Rises (filter_map (draft_after own) (map drafted tables))
-old-rise own [] h = tt
-old-rise own (t ∷ tables) h = onto-rises (draft_after own (drafted t)) (filter_map (draft_after own) (map drafted tables)) (after-rises own (drafted t) h.0) (old-rise own tables h.1)
-
-made-rise : (n : ℕ) (own : List Change) → AllByRecursion Rises (made_from n own)
-made-rise n [] = tt
-made-rise n (change.CreateTable schema name columns ∷ own) =
-    onto-rises (draft_after own (created n schema name columns)) (made_from (n + 1) own) (after-rises own (created n schema name columns) tt) (made-rise (n + 1) own)
-made-rise n (change.CreateSchema name ∷ own) = made-rise n own
-made-rise n (change.DropSchema schema ∷ own) = made-rise n own
-made-rise n (change.DropTable table ∷ own) = made-rise n own
-made-rise n (change.AddColumn table column ∷ own) = made-rise n own
-made-rise n (change.DropColumn table field ∷ own) = made-rise n own
-made-rise n (change.RenameColumn table field name ∷ own) = made-rise n own
-made-rise n (change.PromoteColumn table field ty ∷ own) = made-rise n own
-made-rise n (change.SetDefault table field value ∷ own) = made-rise n own
-made-rise n (change.Insert table rows ∷ own) = made-rise n own
-made-rise n (change.Delete table rows ∷ own) = made-rise n own
-made-rise n (change.Update table rows set ∷ own) = made-rise n own
-made-rise n (change.Compact table ∷ own) = made-rise n own
-made-rise n (change.Flush table ∷ own) = made-rise n own
-
-both-rise : (ds es : List Draft) → AllByRecursion Rises ds → AllByRecursion Rises es → AllByRecursion Rises (ds ++ es)
-both-rise [] es h k = k
-both-rise (d ∷ ds) es h k = (h.0, both-rise ds es h.1 k)
-
-settled-rise : (next : ℕ) (s : State) (own : List Change) (ds : List Draft) → AllByRecursion Rises ds → AllByRecursion HasRowIds (map (settled_table next (worked s own).created) ds)
-settled-rise next s own [] h = tt
-settled-rise next s own (d ∷ ds) h = (rise-append d.next_row d.rows (left d.fresh) h.0, settled-rise next s own ds h.1)
+    at-holds Rises table (with_updates rows set) d h (subst (RiseBelow d.next_row) (sym (same-ids (updated_row rows set) d.rows (updated-id rows set))) h)
+altered-rises c d h = h
 
 pub row_ids_rise : RowIdsRise
 row_ids_rise s own h =
-    let drafts : AllByRecursion Rises (tables_after s own) = both-rise (filter_map (draft_after own) (map drafted s.tables)) (made_from 0 own) (old-rise own s.tables h) (made-rise 0 own) in
-    settled-rise s.next_catalog s own (worked s own).tables (subst (AllByRecursion Rises) (sym (by_table s own)) drafts)
+    let old = all-mapped HasRowIds Rises drafted (λ t rise. rise) s.tables h in
+    all-mapped Rises HasRowIds (settled_table s.next_catalog (worked s own).created)
+    (λ d rise. rise-append d.next_row d.rows (left d.fresh) rise) (worked s own).tables
+    (drafts-hold Rises altered-rises (λ n schema name columns. tt) s own old)

@@ -1,13 +1,17 @@
 pub mod ApplyLemmas
+pub mod CellLemmas
+pub mod TableLemmas
 pub mod CatalogLemmas
 pub mod CreationLemmas
 pub mod ExampleLemmas
+pub mod FieldLemmas
 pub mod IdLemmas
 pub mod KindLemmas
 pub mod LayLemmas
 pub mod LineLemmas
 pub mod MarkLemmas
 pub mod PlaceLemmas
+pub mod PlanLemmas
 pub mod RiseLemmas
 pub mod ReplayLemmas
 pub mod SpareLemmas

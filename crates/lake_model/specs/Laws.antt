@@ -1,5 +1,5 @@
 -- What holds of the plain lake.
-use Rattle.std.specs.Prelude.{◌≡◌, ◌≢◌, ◌<◌, ℕ, List, [], ◌∷◌, map, Option, Some, None}
+use Rattle.std.specs.Prelude.{◌≡◌, ◌≢◌, ◌<◌, ◌≤◌, ℕ, List, [], ◌∷◌, map, Option, Some, None}
 use Rattle.std.specs.List.{AllByRecursion}
 use Rattle.lake_types.specs.Cells.{cell_at, laid_cells}
 use Rattle.lake_types.specs.Kinds.{AreInOrder}
@@ -11,6 +11,7 @@ use Rattle.lake_types.specs.declared.value.Value.{Value}
 use Rattle.lake_model.specs.Apply.{apply, worked}
 use Rattle.lake_model.specs.ByTable.{tables_after}
 use Rattle.lake_model.specs.Core.{Core}
+use Rattle.lake_model.specs.Fits.{Fits}
 use Rattle.lake_model.specs.Kinds.{kinds}
 use Rattle.lake_model.specs.Losses.{LossSort, loss_sort}
 use Rattle.lake_model.specs.Replay.{AreLosses, IsLossText, IsReplay, Lake, Line, LostWhereListed, lost_in, replay_text}
@@ -102,3 +103,34 @@ pub record HasCatalogIds (s : State) : Type 0 where
 -- a list keeps that, whatever it does
 abbrev pub CatalogIdsRise : Type 0
 CatalogIdsRise = (s : State) (own : List Change) → HasCatalogIds s → HasCatalogIds (apply s own)
+
+-- ---- cells
+
+abbrev pub fields_of : List Column → List ℕ
+fields_of columns = map (λ (c : Column). c.field) columns
+
+-- a cell for each column, in the columns' order, and no other
+abbrev pub HasCellsOf : List Column → List (ℕ × Value) → Type 0
+HasCellsOf columns cells = map (λ (cell : ℕ × Value). cell.0) cells ≡ fields_of columns
+
+-- each row of a table has exactly the cells of its columns
+abbrev pub HasCells : Table → Type 0
+HasCells t = AllByRecursion (λ (r : Row). HasCellsOf t.columns r.cells) t.rows
+
+-- a list keeps that, whatever it does
+abbrev pub CellsStand : Type 0
+CellsStand = (s : State) (own : List Change) → AllByRecursion HasCells s.tables → AllByRecursion HasCells (apply s own).tables
+
+-- ---- field ids
+
+-- the field ids of a table's columns rise, from 1 at the least, and lie below its next one
+pub record HasFieldIds (t : Table) : Type 0 where
+  pub rise : RiseBelow t.next_field (fields_of t.columns)
+  pub positive : AllByRecursion (λ n. 1 ≤ n) (fields_of t.columns)
+  pub next_positive : 1 ≤ t.next_field
+
+-- a list that a transaction may have keeps that, since an added column has the next field id of its table
+abbrev pub FieldIdsRise : Type 0
+FieldIdsRise =
+    (s : State) (own : List Change) → HasCatalogIds s → Fits s own → AllByRecursion HasFieldIds s.tables
+    → AllByRecursion HasFieldIds (apply s own).tables

@@ -1,6 +1,6 @@
 //! What holds of the plain lake. Each function's contract is a law, and its body is empty.
 
-ghost use Rattle.lake_model.specs.Laws.{CatalogIdsRise, GoesByTable, HasCatalogIds, KindsAreInOrder, LaysOnce, LossesHaveTexts, LostLinesAreShown, RowIdsRise, StepsLoseNothing, TextsAreReplays};
+ghost use Rattle.lake_model.specs.Laws.{CatalogIdsRise, CellsStand, FieldIdsRise, GoesByTable, HasCatalogIds, KindsAreInOrder, LaysOnce, LossesHaveTexts, LostLinesAreShown, RowIdsRise, StepsLoseNothing, TextsAreReplays};
 ghost use Rattle.lake_model.specs.State.{empty_state};
 
 /// The text of a replay shows which of its lines were lost, so that nothing of it is chosen.
@@ -38,4 +38,15 @@ pub fn row_ids_rise()
 pub fn catalog_ids_rise()
     ensures new { HasCatalogIds empty_state }
     ensures kept { CatalogIdsRise }
+{}
+
+/// Each row of a table has exactly the cells of its columns, in their order, and a list keeps that.
+pub fn cells_stand()
+    ensures { CellsStand }
+{}
+
+/// The field ids of each table's columns rise, from 1 at the least, and lie below its next one. A list that a transaction
+/// may have keeps that, where no two tables have one id.
+pub fn field_ids_rise()
+    ensures { FieldIdsRise }
 {}

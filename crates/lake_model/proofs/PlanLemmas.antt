@@ -1,0 +1,76 @@
+-- What holds of each change that a statement appends.
+use Rattle.std.proofs.Common.{◌≡◌, List, [], ◌∷◌, ◌++◌, refl, subst, Bool, true, false}
+use Rattle.std.specs.Prelude.{ℕ, Option, Some, None}
+use Rattle.lake_types.specs.declared.stmt.Stmt.{Stmt}
+use Rattle.lake_types.specs.declared.stmt.TableName.{TableName}
+use Rattle.lake_types.specs.declared.value.Column.{Column}
+use Rattle.lake_model.specs.Apply.{Cells, Draft, Work, worked}
+use Rattle.lake_model.specs.Plans as p
+use Rattle.lake_model.specs.Plans.{Plan, Append, Leave, Refuse, unless}
+use Rattle.lake_model.specs.Rows as r
+use Rattle.lake_model.specs.State.{State}
+use Rattle.lake_model.specs.Step as s
+use Rattle.lake_model.specs.declared.answer.Answer.{Answer}
+use Rattle.lake_model.specs.declared.answer.Answer.TheVariants as answer
+use Rattle.lake_model.specs.declared.change.Change.{Change}
+use Rattle.lake_model.specs.declared.change.Ref.{Ref}
+
+module _ (K : Change → Type 0) where
+  unfoldable pub Holds : Plan → Type 0
+  Holds (Refuse a) = Unit {0}
+  Holds (Append c a) = K c
+  Holds (Leave a) = Unit {0}
+
+  pub refuses : (a : Answer) → Holds (Refuse a)
+  unfolding Holds
+  refuses a = tt
+
+  pub appends : (c : Change) (a : Answer) → K c → Holds (Append c a)
+  unfolding Holds
+  appends c a h = h
+
+  pub leaves : (a : Answer) → Holds (Leave a)
+  unfolding Holds
+  leaves a = tt
+
+  pub unless-holds : (f : Option Answer) (plan : Plan) → Holds plan → Holds (unless f plan)
+  unless-holds None plan h = h
+  unless-holds (Some a) plan h = refuses a
+
+  pub in_schema-holds : (name : List ℕ) (plan : Ref → Plan) (o : Option Ref) → ((at : Ref) → Holds (plan at)) → Holds (p.in_schema name plan o)
+  in_schema-holds name plan None h = refuses _
+  in_schema-holds name plan (Some at) h = h at
+
+  of_draft-holds : (table : TableName) (plan : Draft → Plan) (o : Option Draft) → ((d : Draft) → o ≡ Some d → Holds (plan d)) → Holds (p.of_draft table plan o)
+  of_draft-holds table plan None h = refuses _
+  of_draft-holds table plan (Some d) h = h d refl
+
+  -- the table that is found
+  pub on_table-holds : (w : Work) (table : TableName) (plan : Draft → Plan) → ((at : Ref) (d : Draft) → p.table_named w at table.table ≡ Some d → Holds (plan d)) → Holds (p.on_table w table plan)
+  on_table-holds w table plan h =
+      in_schema-holds table.schema _ (p.schema_named w table.schema) (λ at. of_draft-holds table plan (p.table_named w at table.table) (h at))
+
+  pub of_column-holds : (name : List ℕ) (plan : Column → Plan) (o : Option Column) → ((c : Column) → Holds (plan c)) → Holds (p.of_column name plan o)
+  of_column-holds name plan None h = refuses _
+  of_column-holds name plan (Some c) h = h c
+
+  within-holds : (base : State) (own : List Change) (plan : Plan) → Holds plan → Holds (s.within base own plan)
+  within-holds base own (Refuse a) h = h
+  within-holds base own (Leave a) h = h
+  within-holds base own (Append c a) h = go (s.has_room base (own ++ c ∷ [])) refl
+    where
+      go : (b : Bool) → s.has_room base (own ++ c ∷ []) ≡ b → Holds (s.within base own (Append c a))
+      go true e = rw e h
+      go false e = rw e (refuses answer.TooLarge)
+
+  -- a change that a statement appends comes from its plan
+  pub plan_of-holds : (base : State) (own : List Change) (x : Stmt) → Holds (s.plan_in base.next_catalog (worked base own) x) → Holds (s.plan_of base own x)
+  plan_of-holds base own x h = go (s.is_mixed own x) refl
+    where
+      go : (b : Bool) → s.is_mixed own x ≡ b → Holds (s.plan_of base own x)
+      go true e = rw e (refuses answer.Mixed)
+      go false e = rw e (within-holds base own (s.plan_in base.next_catalog (worked base own) x) h)
+
+  pub appended-holds : (plan : Plan) (c : Change) (a : Answer) → plan ≡ Append c a → Holds plan → K c
+  unfolding Holds
+  appended-holds plan c a e h = subst Holds e h
