@@ -28,6 +28,7 @@ use Rattle.lake_model.specs.declared.change.RowRef.{RowRef}
 use Rattle.lake_model.proofs.CellLemmas.{fields-same}
 use Rattle.lake_model.proofs.CreationLemmas.{altered-at}
 use Rattle.lake_model.proofs.PlanLemmas as plan
+use Rattle.lake_model.proofs.PlanLemmas.{found-has}
 use Rattle.lake_model.proofs.RiseLemmas.{rise-filter, rise-join}
 use Rattle.lake_model.proofs.TableLemmas.{all-joined, all-mapped, at-holds}
 
@@ -229,17 +230,6 @@ ref_turned (ref.New a) (ref.New b) = search arith
 ref_turned (ref.Old a) (ref.New b) = refl
 ref_turned (ref.New a) (ref.Old b) = refl
 
-found-has : (P : Draft → Type 0) (q : Draft → Bool) (ds : List Draft) (d : Draft) → find q ds ≡ Some d → AllByRecursion P ds → P d
-found-has P q [] d e h = absurd cc
-found-has P q (x ∷ ds) d e h = go (q x) refl (λ more. found-has P q ds d more h.1)
-  where
-    go : (b : Bool) → q x ≡ b → (find q ds ≡ Some d → P d) → P d
-    go true is more =
-        let some : Some x ≡ Some d = rw is at e in
-        let same : x ≡ d = cc in
-        subst P same h.0
-    go false is more = more (rw is at e)
-
 -- the table that is found is the only one with its reference
 only-found : (q : Draft → Bool) (ds : List Draft) (d : Draft) → find q ds ≡ Some d → Differ ds → AllByRecursion (λ (e : Draft). is_ref e.at d.at ≡ true → d.next_field ≡ e.next_field) ds
 only-found q [] d e h = tt
@@ -287,8 +277,8 @@ alters-adds next w (alter.SetDefault name v) table h =
 
 plans-add : (next : ℕ) (w : Work) (x : Stmt) → Differ w.tables → plan.Holds (AddsNext w.tables) (s.plan_in next w x)
 plans-add next w (stmt.CreateSchema name) h = plan.unless-holds (AddsNext w.tables) _ _ (plan.appends (AddsNext w.tables) _ _ tt)
-plans-add next w (stmt.DropSchema name) h = plan.in_schema-holds (AddsNext w.tables) name _ (p.schema_named w name) (λ at. plan.unless-holds (AddsNext w.tables) _ _ (plan.appends (AddsNext w.tables) _ _ tt))
-plans-add next w (stmt.CreateTable table columns) h = plan.in_schema-holds (AddsNext w.tables) table.schema _ (p.schema_named w table.schema) (λ at. plan.unless-holds (AddsNext w.tables) _ _ (plan.appends (AddsNext w.tables) _ _ tt))
+plans-add next w (stmt.DropSchema name) h = plan.in_schema-holds (AddsNext w.tables) name _ (p.schema_named w name) (λ at named. plan.unless-holds (AddsNext w.tables) _ _ (plan.appends (AddsNext w.tables) _ _ tt))
+plans-add next w (stmt.CreateTable table columns) h = plan.in_schema-holds (AddsNext w.tables) table.schema _ (p.schema_named w table.schema) (λ at named. plan.unless-holds (AddsNext w.tables) _ _ (plan.appends (AddsNext w.tables) _ _ tt))
 plans-add next w (stmt.DropTable table) h = plan.on_table-holds (AddsNext w.tables) w table _ (λ at d found. plan.appends (AddsNext w.tables) _ _ tt)
 plans-add next w (stmt.Change table x) h = alters-adds next w x table h
 plans-add next w (stmt.Insert table rows) h =
@@ -309,7 +299,7 @@ allowed-adds base before c h k = tt
 
 -- ---- the whole list
 
-worked-more : (base : State) (before : List Change) (c : Change) → worked base (before ++ c ∷ []) ≡ changed (worked base before) c
+pub worked-more : (base : State) (before : List Change) (c : Change) → worked base (before ++ c ∷ []) ≡ changed (worked base before) c
 worked-more base before c = fold-append changed (begun base) before (c ∷ [])
 
 fits-sound : (base : State) (before own : List Change) → FitsFrom base before own → Sound (worked base before).created_tables (worked base before).tables

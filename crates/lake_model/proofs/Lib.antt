@@ -15,3 +15,4 @@ pub mod PlanLemmas
 pub mod RiseLemmas
 pub mod ReplayLemmas
 pub mod SpareLemmas
+pub mod SpellLemmas

@@ -1,6 +1,7 @@
 -- What holds of each change that a statement appends.
-use Rattle.std.proofs.Common.{◌≡◌, List, [], ◌∷◌, ◌++◌, refl, subst, Bool, true, false}
-use Rattle.std.specs.Prelude.{ℕ, Option, Some, None}
+use Rattle.std.proofs.Common.{◌≡◌, List, [], ◌∷◌, ◌++◌, refl, sym, ap, subst, ◌∙◌, Bool, true, false}
+use Rattle.std.specs.Prelude.{ℕ, Option, Some, None, find}
+use Rattle.std.specs.List.{AllByRecursion}
 use Rattle.lake_types.specs.declared.stmt.Stmt.{Stmt}
 use Rattle.lake_types.specs.declared.stmt.TableName.{TableName}
 use Rattle.lake_types.specs.declared.value.Column.{Column}
@@ -14,6 +15,32 @@ use Rattle.lake_model.specs.declared.answer.Answer.{Answer}
 use Rattle.lake_model.specs.declared.answer.Answer.TheVariants as answer
 use Rattle.lake_model.specs.declared.change.Change.{Change}
 use Rattle.lake_model.specs.declared.change.Ref.{Ref}
+
+-- ---- what is found
+
+pub found-has : {X : Type 0} (P : X → Type 0) (q : X → Bool) (xs : List X) (x : X) → find q xs ≡ Some x → AllByRecursion P xs → P x
+found-has P q [] x e h = absurd cc
+found-has {X} P q (y ∷ xs) x e h = go (q y) refl (λ more. found-has P q xs x more h.1)
+  where
+    go : (b : Bool) → q y ≡ b → (find q xs ≡ Some x → P x) → P x
+    go true is more =
+        let some : Some y ≡ Some x = rw is at e in
+        let same : y ≡ x = cc in
+        subst P same h.0
+    go false is more = more (rw is at e)
+
+pub found-passes : {X : Type 0} (q : X → Bool) (xs : List X) (x : X) → find q xs ≡ Some x → q x ≡ true
+found-passes q [] x e = absurd cc
+found-passes {X} q (y ∷ xs) x e = go (q y) refl (λ more. found-passes q xs x more)
+  where
+    go : (b : Bool) → q y ≡ b → (find q xs ≡ Some x → q x ≡ true) → q x ≡ true
+    go true is more =
+        let some : Some y ≡ Some x = rw is at e in
+        let same : y ≡ x = cc in
+        ap q (sym same) ∙ is
+    go false is more = more (rw is at e)
+
+-- ---- plans
 
 module _ (K : Change → Type 0) where
   unfoldable pub Holds : Plan → Type 0
@@ -37,9 +64,9 @@ module _ (K : Change → Type 0) where
   unless-holds None plan h = h
   unless-holds (Some a) plan h = refuses a
 
-  pub in_schema-holds : (name : List ℕ) (plan : Ref → Plan) (o : Option Ref) → ((at : Ref) → Holds (plan at)) → Holds (p.in_schema name plan o)
+  pub in_schema-holds : (name : List ℕ) (plan : Ref → Plan) (o : Option Ref) → ((at : Ref) → o ≡ Some at → Holds (plan at)) → Holds (p.in_schema name plan o)
   in_schema-holds name plan None h = refuses _
-  in_schema-holds name plan (Some at) h = h at
+  in_schema-holds name plan (Some at) h = h at refl
 
   of_draft-holds : (table : TableName) (plan : Draft → Plan) (o : Option Draft) → ((d : Draft) → o ≡ Some d → Holds (plan d)) → Holds (p.of_draft table plan o)
   of_draft-holds table plan None h = refuses _
@@ -48,7 +75,7 @@ module _ (K : Change → Type 0) where
   -- the table that is found
   pub on_table-holds : (w : Work) (table : TableName) (plan : Draft → Plan) → ((at : Ref) (d : Draft) → p.table_named w at table.table ≡ Some d → Holds (plan d)) → Holds (p.on_table w table plan)
   on_table-holds w table plan h =
-      in_schema-holds table.schema _ (p.schema_named w table.schema) (λ at. of_draft-holds table plan (p.table_named w at table.table) (h at))
+      in_schema-holds table.schema _ (p.schema_named w table.schema) (λ at named. of_draft-holds table plan (p.table_named w at table.table) (h at))
 
   pub of_column-holds : (name : List ℕ) (plan : Column → Plan) (o : Option Column) → ((c : Column) → Holds (plan c)) → Holds (p.of_column name plan o)
   of_column-holds name plan None h = refuses _

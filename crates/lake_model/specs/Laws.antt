@@ -1,8 +1,8 @@
 -- What holds of the plain lake.
-use Rattle.std.specs.Prelude.{◌≡◌, ◌≢◌, ◌<◌, ◌≤◌, ℕ, List, [], ◌∷◌, map, Option, Some, None}
+use Rattle.std.specs.Prelude.{◌≡◌, ◌≢◌, ◌<◌, ◌≤◌, ◌^◌, ℕ, List, [], ◌∷◌, map, IsSome, Option, Some, None}
 use Rattle.std.specs.List.{AllByRecursion}
 use Rattle.lake_types.specs.Cells.{cell_at, laid_cells}
-use Rattle.lake_types.specs.Kinds.{AreInOrder}
+use Rattle.lake_types.specs.Kinds.{AreInOrder, SaysWith, changes_text, name_of}
 use Rattle.lake_types.specs.declared.kind.SchemaName.{SchemaName}
 use Rattle.lake_types.specs.declared.stmt.Stmt.{Stmt}
 use Rattle.lake_types.specs.declared.value.Column.{Column}
@@ -10,9 +10,9 @@ use Rattle.lake_types.specs.declared.value.Row.{Row}
 use Rattle.lake_types.specs.declared.value.Value.{Value}
 use Rattle.lake_model.specs.Apply.{apply, worked}
 use Rattle.lake_model.specs.ByTable.{tables_after}
-use Rattle.lake_model.specs.Core.{Core}
+use Rattle.lake_model.specs.Core.{Core, HaveKinds, head, version_at, with_version}
 use Rattle.lake_model.specs.Fits.{Fits}
-use Rattle.lake_model.specs.Kinds.{kinds}
+use Rattle.lake_model.specs.Kinds.{kinds, table_of}
 use Rattle.lake_model.specs.Losses.{LossSort, loss_sort}
 use Rattle.lake_model.specs.Replay.{AreLosses, IsLossText, IsReplay, Lake, Line, LostWhereListed, lost_in, replay_text}
 use Rattle.lake_model.specs.State.{State, Table}
@@ -20,6 +20,9 @@ use Rattle.lake_model.specs.Step.{step}
 use Rattle.lake_model.specs.Texts.{answer_text, shown}
 use Rattle.lake_model.specs.declared.answer.Answer.{Answer}
 use Rattle.lake_model.specs.declared.change.Change.{Change}
+use Rattle.lake_model.specs.declared.change.Change.TheVariants as change
+use Rattle.lake_model.specs.declared.change.Ref.{Ref}
+use Rattle.lake_model.specs.declared.change.Ref.TheVariants as ref
 
 -- ---- replays
 
@@ -134,3 +137,43 @@ abbrev pub FieldIdsRise : Type 0
 FieldIdsRise =
     (s : State) (own : List Change) → HasCatalogIds s → Fits s own → AllByRecursion HasFieldIds s.tables
     → AllByRecursion HasFieldIds (apply s own).tables
+
+-- ---- kinds and texts
+
+-- an id of the base, if it is one, is a number of 64 bits; a schema that is dropped has a name in the base
+abbrev pub KnownTable : Ref → Type 0
+KnownTable (ref.Old id) = id < 2 ^ 64
+KnownTable (ref.New place) = Unit {0}
+
+abbrev pub KnownSchema : List SchemaName → Ref → Type 0
+KnownSchema names (ref.Old id) = (id < 2 ^ 64) × IsSome (name_of names id)
+KnownSchema names (ref.New place) = Unit {0}
+
+abbrev pub KnownTarget : Option Ref → Type 0
+KnownTarget None = Unit {0}
+KnownTarget (Some table) = KnownTable table
+
+-- what a change drops or changes is known
+abbrev pub IsKnown : List SchemaName → Change → Type 0
+IsKnown names (change.DropSchema schema) = KnownSchema names schema
+IsKnown names (change.DropTable table) = KnownTable table
+IsKnown names c = KnownTarget (table_of c)
+
+-- a list that a transaction may have changes only what is known
+abbrev pub FitsKnown : Type 0
+FitsKnown =
+    (s : State) (own : List Change) → HasCatalogIds s → s.next_catalog ≤ 2 ^ 64 → Fits s own
+    → AllByRecursion (IsKnown s.schemas) own
+
+-- The text of a list's kinds spells them; the base has the schemas of these names.
+abbrev pub KindsAreSpelled : Type 0
+KindsAreSpelled =
+    (names : List SchemaName) (own : List Change) → AllByRecursion (IsKnown names) own
+    → SaysWith names (changes_text (kinds names own)) (kinds names own)
+
+-- so each version goes on having the kinds that its text spells
+abbrev pub VersionsHaveKinds : Type 0
+VersionsHaveKinds =
+    (core : Core) (own : List Change) → core.versions ≢ []
+    → AllByRecursion (IsKnown (version_at core (head core)).state.schemas) own
+    → HaveKinds core.versions → HaveKinds (with_version core own).versions

@@ -1,6 +1,6 @@
 //! What holds of the plain lake. Each function's contract is a law, and its body is empty.
 
-ghost use Rattle.lake_model.specs.Laws.{CatalogIdsRise, CellsStand, FieldIdsRise, GoesByTable, HasCatalogIds, KindsAreInOrder, LaysOnce, LossesHaveTexts, LostLinesAreShown, RowIdsRise, StepsLoseNothing, TextsAreReplays};
+ghost use Rattle.lake_model.specs.Laws.{CatalogIdsRise, CellsStand, FieldIdsRise, FitsKnown, GoesByTable, HasCatalogIds, KindsAreInOrder, KindsAreSpelled, LaysOnce, LossesHaveTexts, LostLinesAreShown, RowIdsRise, StepsLoseNothing, TextsAreReplays, VersionsHaveKinds};
 ghost use Rattle.lake_model.specs.State.{empty_state};
 
 /// The text of a replay shows which of its lines were lost, so that nothing of it is chosen.
@@ -49,4 +49,12 @@ pub fn cells_stand()
 /// may have keeps that, where no two tables have one id.
 pub fn field_ids_rise()
     ensures { FieldIdsRise }
+{}
+
+/// A version that a list makes has the kinds that its text spells, where the list drops and changes only what is known:
+/// ids are numbers of 64 bits, and a dropped schema has a name. What a list of a transaction names is known in its base.
+pub fn kinds_are_spelled()
+    ensures spelled { KindsAreSpelled }
+    ensures versions { VersionsHaveKinds }
+    ensures fits { FitsKnown }
 {}
