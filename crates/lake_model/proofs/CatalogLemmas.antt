@@ -8,6 +8,7 @@ use Rattle.lake_types.specs.declared.kind.SchemaName.{SchemaName}
 use Rattle.lake_model.specs.Apply.{Creation, Draft, NewSchema, NewTable, SchemaDraft, apply, begun, created, drafted, drafted_schema, is_created_schema, is_created_table, place_of, schema_id, settled_schema, settled_table, table_id, worked}
 use Rattle.lake_model.specs.ByTable.{draft_after, made_from, tables_after}
 use Rattle.lake_model.specs.Creations.{creations, made_schemas}
+use Rattle.lake_model.specs.Growth as growth
 use Rattle.lake_model.specs.Kinds.{drops_schema, drops_table}
 use Rattle.lake_model.specs.Laws.{AreApart, CatalogIdsRise, HasCatalogIds, RiseBelow, schema_ids, table_ids}
 use Rattle.lake_model.specs.State.{State, Table}
@@ -108,11 +109,11 @@ differ m n (c ∷ own) = differ m n own
 
 -- ---- ids of creations
 
-abbrev number : ℕ → List Creation → Creation → ℕ
+abbrev pub number : ℕ → List Creation → Creation → ℕ
 number next new (NewSchema p) = schema_id next new (ref.New p)
 number next new (NewTable p) = table_id next new (ref.New p)
 
-abbrev is_schema : Creation → Bool
+abbrev pub is_schema : Creation → Bool
 is_schema (NewSchema p) = true
 is_schema (NewTable p) = false
 
@@ -121,21 +122,21 @@ number-is next new [] = tt
 number-is next new (NewSchema p ∷ cs) = (omega arith, number-is next new cs)
 number-is next new (NewTable p ∷ cs) = (omega arith, number-is next new cs)
 
-numbers-rise : (next : ℕ) (own : List Change) → RiseBelow (next + length (creations 0 0 own)) (map (number next (creations 0 0 own)) (creations 0 0 own))
+pub numbers-rise : (next : ℕ) (own : List Change) → RiseBelow (next + length (creations 0 0 own)) (map (number next (creations 0 0 own)) (creations 0 0 own))
 numbers-rise next own =
     let new = creations 0 0 own in
     let limit : length new + next ≡ next + length new = omega arith in
     subst (λ n. RiseBelow n (map (number next new) new)) limit
     (rise-shifted (place new) (number next new) next (length new) new (number-is next new new) (places-rise new (differ 0 0 own)))
 
-numbers-beyond : (next : ℕ) (new cs : List Creation) → AllByRecursion (λ y. next ≤ y) (map (number next new) cs)
+pub numbers-beyond : (next : ℕ) (new cs : List Creation) → AllByRecursion (λ y. next ≤ y) (map (number next new) cs)
 numbers-beyond next new [] = tt
 numbers-beyond next new (NewSchema p ∷ cs) = (omega arith, numbers-beyond next new cs)
 numbers-beyond next new (NewTable p ∷ cs) = (omega arith, numbers-beyond next new cs)
 
 -- ---- the ids after a list
 
-made-schema_ids : (next : ℕ) (new : List Creation) (m n : ℕ) (own : List Change)
+pub made-schema_ids : (next : ℕ) (new : List Creation) (m n : ℕ) (own : List Change)
     → map (λ (s : SchemaDraft). schema_id next new s.at) (made_schemas m own) ≡ map (number next new) (filter is_schema (creations m n own))
 made-schema_ids next new m n [] = refl
 made-schema_ids next new m n (change.CreateSchema name ∷ own) = go (drops_schema own (ref.New m)) refl (made-schema_ids next new (m + 1) n own)
@@ -211,22 +212,16 @@ old-table_ids next new own (t ∷ ts) =
     go true e rest = rw e rest
     go false e rest = rw e (ap (λ l. t.id ∷ l) rest)
 
-settled-schema_ids : (next : ℕ) (new : List Creation) (ss : List SchemaDraft) → map (λ (x : SchemaName). x.id) (map (settled_schema next new) ss) ≡ map (λ (s : SchemaDraft). schema_id next new s.at) ss
+pub settled-schema_ids : (next : ℕ) (new : List Creation) (ss : List SchemaDraft) → map (λ (x : SchemaName). x.id) (map (settled_schema next new) ss) ≡ map (λ (s : SchemaDraft). schema_id next new s.at) ss
 settled-schema_ids next new [] = refl
 settled-schema_ids next new (s ∷ ss) = ap (λ l. schema_id next new s.at ∷ l) (settled-schema_ids next new ss)
 
-settled-table_ids : (next : ℕ) (new : List Creation) (ds : List Draft) → map (λ (t : Table). t.id) (map (settled_table next new) ds) ≡ map (λ (d : Draft). table_id next new d.at) ds
+pub settled-table_ids : (next : ℕ) (new : List Creation) (ds : List Draft) → map (λ (t : Table). t.id) (map (settled_table next new) ds) ≡ map (λ (d : Draft). table_id next new d.at) ds
 settled-table_ids next new [] = refl
 settled-table_ids next new (d ∷ ds) = ap (λ l. table_id next new d.at ∷ l) (settled-table_ids next new ds)
 
-abbrev kept_schemas : State → List Change → List SchemaName
-kept_schemas s own = filter (λ (x : SchemaName). not (drops_schema own (ref.Old x.id))) s.schemas
-
-abbrev kept_tables : State → List Change → List Table
-kept_tables s own = filter (λ (t : Table). not (drops_table own (ref.Old t.id))) s.tables
-
 schema_ids-after : (s : State) (own : List Change) → schema_ids (apply s own)
-    ≡ map (λ (x : SchemaName). x.id) (kept_schemas s own) ++ map (number s.next_catalog (creations 0 0 own)) (filter is_schema (creations 0 0 own))
+    ≡ map (λ (x : SchemaName). x.id) (growth.left_schemas s own) ++ map (number s.next_catalog (creations 0 0 own)) (filter is_schema (creations 0 0 own))
 schema_ids-after s own =
     let next = s.next_catalog in
     let new = creations 0 0 own in
@@ -236,7 +231,7 @@ schema_ids-after s own =
     ∙ ap₂ ◌++◌ (old-schema_ids next new own s.schemas) (made-schema_ids next new 0 0 own)
 
 table_ids-after : (s : State) (own : List Change) → table_ids (apply s own)
-    ≡ map (λ (t : Table). t.id) (kept_tables s own) ++ map (number s.next_catalog (creations 0 0 own)) (filter (λ c. not (is_schema c)) (creations 0 0 own))
+    ≡ map (λ (t : Table). t.id) (growth.left_tables s own) ++ map (number s.next_catalog (creations 0 0 own)) (filter (λ c. not (is_schema c)) (creations 0 0 own))
 table_ids-after s own =
     let next = s.next_catalog in
     let new = creations 0 0 own in
@@ -256,8 +251,8 @@ catalog_ids_rise s own h =
     let all = numbers-rise next own in
     let new_schemas = map (number next new) (filter is_schema new) in
     let new_tables = map (number next new) (filter (λ c. not (is_schema c)) new) in
-    let old_schemas = map (λ (x : SchemaName). x.id) (kept_schemas s own) in
-    let old_tables = map (λ (t : Table). t.id) (kept_tables s own) in
+    let old_schemas = map (λ (x : SchemaName). x.id) (growth.left_schemas s own) in
+    let old_tables = map (λ (t : Table). t.id) (growth.left_tables s own) in
     let beyond_schemas = numbers-beyond next new (filter is_schema new) in
     let beyond_tables = numbers-beyond next new (filter (λ c. not (is_schema c)) new) in
     let more : next ≤ limit = omega arith in

@@ -5,6 +5,7 @@ pub mod CatalogLemmas
 pub mod CreationLemmas
 pub mod ExampleLemmas
 pub mod FieldLemmas
+pub mod GrowthLemmas
 pub mod IdLemmas
 pub mod KindLemmas
 pub mod LayLemmas

@@ -1,5 +1,5 @@
 -- What holds of the plain lake.
-use Rattle.std.specs.Prelude.{◌≡◌, ◌≢◌, ◌<◌, ◌≤◌, ◌^◌, ℕ, List, [], ◌∷◌, map, IsSome, Option, Some, None}
+use Rattle.std.specs.Prelude.{◌≡◌, ◌≢◌, ◌<◌, ◌≤◌, ◌+◌, ◌^◌, ℕ, List, [], ◌∷◌, length, map, IsSome, Option, Some, None}
 use Rattle.std.specs.List.{AllByRecursion}
 use Rattle.lake_types.specs.Cells.{cell_at, laid_cells}
 use Rattle.lake_types.specs.Kinds.{AreInOrder, SaysWith, changes_text, name_of}
@@ -11,7 +11,9 @@ use Rattle.lake_types.specs.declared.value.Value.{Value}
 use Rattle.lake_model.specs.Apply.{apply, worked}
 use Rattle.lake_model.specs.ByTable.{tables_after}
 use Rattle.lake_model.specs.Core.{Core, HaveKinds, head, version_at, with_version}
+use Rattle.lake_model.specs.Creations.{creations}
 use Rattle.lake_model.specs.Fits.{Fits}
+use Rattle.lake_model.specs.Growth.{IsGrowth, grown_state, new_schemas, new_tables}
 use Rattle.lake_model.specs.Kinds.{kinds, table_of}
 use Rattle.lake_model.specs.Losses.{LossSort, loss_sort}
 use Rattle.lake_model.specs.Replay.{AreLosses, IsLossText, IsReplay, Lake, Line, LostWhereListed, lost_in, replay_text}
@@ -177,3 +179,24 @@ VersionsHaveKinds =
     (core : Core) (own : List Change) → core.versions ≢ []
     → AllByRecursion (IsKnown (version_at core (head core)).state.schemas) own
     → HaveKinds core.versions → HaveKinds (with_version core own).versions
+
+-- ---- lists that only create, drop and insert
+
+-- such a list leaves the old schemas and tables that it doesn't drop, with its rows behind those of each table, and behind
+-- them stand the created ones that it leaves
+abbrev pub GrowsByTable : Type 0
+GrowsByTable = (s : State) (own : List Change) → AllByRecursion IsGrowth own → apply s own ≡ grown_state s own
+
+-- the ids of created schemas and of created tables: all from the next one on and below a limit, in order of creation
+pub record HasNewIds (next limit : ℕ) (schema_ids table_ids : List ℕ) : Type 0 where
+  pub schemas : RiseBelow limit schema_ids
+  pub tables : RiseBelow limit table_ids
+  pub schemas_new : AllByRecursion (λ n. next ≤ n) schema_ids
+  pub tables_new : AllByRecursion (λ n. next ≤ n) table_ids
+  pub apart : AreApart schema_ids table_ids
+
+-- so it is of any list: one sequence of ids for both, of as many numbers as it creates and leaves
+abbrev pub NewIdsRise : Type 0
+NewIdsRise =
+    (next : ℕ) (own : List Change)
+    → HasNewIds next (next + length (creations 0 0 own)) (map (λ (x : SchemaName). x.id) (new_schemas next own)) (map (λ (t : Table). t.id) (new_tables next own))

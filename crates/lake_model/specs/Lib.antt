@@ -15,5 +15,6 @@ pub mod History
 pub mod Examples
 pub mod ByTable
 pub mod Creations
+pub mod Growth
 pub mod Laws
 pub mod Placed

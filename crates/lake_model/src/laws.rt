@@ -1,6 +1,6 @@
 //! What holds of the plain lake. Each function's contract is a law, and its body is empty.
 
-ghost use Rattle.lake_model.specs.Laws.{CatalogIdsRise, CellsStand, FieldIdsRise, FitsKnown, GoesByTable, HasCatalogIds, KindsAreInOrder, KindsAreSpelled, LaysOnce, LossesHaveTexts, LostLinesAreShown, RowIdsRise, StepsLoseNothing, TextsAreReplays, VersionsHaveKinds};
+ghost use Rattle.lake_model.specs.Laws.{CatalogIdsRise, CellsStand, FieldIdsRise, FitsKnown, GoesByTable, GrowsByTable, HasCatalogIds, KindsAreInOrder, KindsAreSpelled, LaysOnce, LossesHaveTexts, LostLinesAreShown, NewIdsRise, RowIdsRise, StepsLoseNothing, TextsAreReplays, VersionsHaveKinds};
 ghost use Rattle.lake_model.specs.State.{empty_state};
 
 /// The text of a replay shows which of its lines were lost, so that nothing of it is chosen.
@@ -57,4 +57,11 @@ pub fn kinds_are_spelled()
     ensures spelled { KindsAreSpelled }
     ensures versions { VersionsHaveKinds }
     ensures fits { FitsKnown }
+{}
+
+/// A list that only creates, drops and inserts leaves the old schemas and tables that it doesn't drop, with its rows behind
+/// those of each table, and then come the created ones that it leaves. Their ids rise from the next catalogue id on.
+pub fn lists_grow_tables()
+    ensures state { GrowsByTable }
+    ensures ids { NewIdsRise }
 {}
