@@ -6,6 +6,7 @@ use Rattle.std.specs.List.{AllByRecursion, list_any}
 use Rattle.std.specs.Option.{option_or}
 use Rattle.std.specs.Ordering.{MatchOrdering, is_gt, nat_cmp, ordering_then}
 use Rattle.std.specs.Prelude.{find, ◌||◌, ◌&&◌}
+use Rattle.std.proofs.Math.Bool.{or-false}
 use Rattle.std.proofs.lemmas.Cmp.{ranked}
 use Rattle.lake_types.specs.Kinds.{AreInOrder, kind_cmp, rank, subject, then_by}
 use Rattle.lake_types.specs.declared.kind.Kind.{Kind}
@@ -35,10 +36,6 @@ one_name a b = names a b ∙ sym (eq_only (slice_cmp nat_cmp a b))
 two_names : (s t a b : List ℕ) → (same_name s t && same_name a b) ≡ is_eq (then_by (slice_cmp nat_cmp s t) (slice_cmp nat_cmp a b))
 two_names s t a b = ap (λ x. x && same_name a b) (names s t) ∙ ap (λ x. is_eq (slice_cmp nat_cmp s t) && x) (names a b) ∙ sym (eq_first (slice_cmp nat_cmp s t) (slice_cmp nat_cmp a b))
 
-alone : (b : Bool) → b ≡ (b || false)
-alone true = refl
-alone false = refl
-
 ids : (a b : ℕ) → (a == b) ≡ is_eq (then_by (ordering_then (nat_cmp a b) Equal) Equal)
 ids a b = unsigned_ties a b ∙ go (nat_cmp a b)
   where
@@ -48,7 +45,7 @@ ids a b = unsigned_ties a b ∙ go (nat_cmp a b)
     go Greater = refl
 
 id_alone : (a b : ℕ) → (a == b) ≡ (is_eq (then_by (ordering_then (nat_cmp a b) Equal) Equal) || false)
-id_alone a b = ids a b ∙ alone (is_eq (then_by (ordering_then (nat_cmp a b) Equal) Equal))
+id_alone a b = ids a b ∙ sym (or-false (is_eq (then_by (ordering_then (nat_cmp a b) Equal) Equal)))
 
 -- ---- the order of sorts
 
@@ -162,7 +159,7 @@ by_created_table t b ks h =
     ∙ find-same _ _ same ks
   where
     same : (m : Kind) → (is_same (CreatedTable t b) m || is_drop_of t m) ≡ conflicts m (CreatedTable t b)
-    same (CreatedTable s a) = sym (two_names s t a b ∙ alone _)
+    same (CreatedTable s a) = or-false _ ∙ sym (two_names s t a b)
     same (DroppedSchema i s) = refl
     same (CreatedSchema s) = refl
     same (InsertedInto a) = refl
@@ -178,7 +175,7 @@ by_dropped_schema j t ks h =
     ∙ find-same _ _ same ks
   where
     same : (m : Kind) → (is_table_in t m || is_drop_of t m) ≡ conflicts m (DroppedSchema j t)
-    same (CreatedTable s a) = sym (names s t ∙ alone _)
+    same (CreatedTable s a) = or-false _ ∙ sym (names s t)
     same (DroppedSchema i s) = refl
     same (CreatedSchema s) = refl
     same (InsertedInto a) = refl

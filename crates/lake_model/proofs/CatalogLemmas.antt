@@ -6,19 +6,18 @@ use Rattle.std.proofs.lemmas.Bool.{ne_eqb, eq-eqb}
 use Rattle.std.proofs.lemmas.List.{map-append}
 use Rattle.lake_types.specs.declared.kind.SchemaName.{SchemaName}
 use Rattle.lake_model.specs.Apply.{Creation, Draft, NewSchema, NewTable, SchemaDraft, apply, begun, created, drafted, drafted_schema, is_created_schema, is_created_table, place_of, schema_id, settled_schema, settled_table, table_id, worked}
-use Rattle.lake_model.specs.ByTable.{draft_after, made_from, tables_after}
+use Rattle.lake_model.specs.ByTable.{draft_after, made_from}
 use Rattle.lake_model.specs.Creations.{creations, made_schemas}
 use Rattle.lake_model.specs.Growth as growth
 use Rattle.lake_model.specs.Kinds.{drops_schema, drops_table}
-use Rattle.lake_model.specs.Laws.{AreApart, CatalogIdsRise, HasCatalogIds, RiseBelow, schema_ids, table_ids}
+use Rattle.lake_model.specs.Laws.{AreApart, CatalogIdsRise, RiseBelow, schema_ids, table_ids}
 use Rattle.lake_model.specs.State.{State, Table}
 use Rattle.lake_model.specs.declared.change.Change.{Change}
 use Rattle.lake_model.specs.declared.change.Change.TheVariants as change
-use Rattle.lake_model.specs.declared.change.Ref.{Ref}
 use Rattle.lake_model.specs.declared.change.Ref.TheVariants as ref
 use Rattle.lake_model.proofs.ApplyLemmas.{by_table}
 use Rattle.lake_model.proofs.CreationLemmas.{after-at, created-worked, left_schemas, schemas-after}
-use Rattle.lake_model.proofs.RiseLemmas.{all-below, apart-beyond, apart-filters, apart-joined, apart-turned, parts-apart, rise-filter, rise-join, rise-more, rise-shifted}
+use Rattle.lake_model.proofs.RiseLemmas.{all-below, apart-beyond, apart-filters, apart-joined, apart-turned, parts-apart, rise-filter, rise-join, rise-shifted}
 
 -- ---- places of creations
 

@@ -1,21 +1,19 @@
 -- Each row has exactly the cells of its table's columns.
 use Rattle.std.proofs.Common.{◌≡◌, ℕ, ◌+◌, List, [], ◌∷◌, ◌++◌, ◌==◌, map, filter, refl, sym, ap, ◌∙◌, Bool, true, false}
 use Rattle.std.specs.Prelude.{Option, Some, None, not, option_map}
-use Rattle.std.specs.List.{AllByRecursion, cons_option, filter_map}
+use Rattle.std.specs.List.{AllByRecursion}
 use Rattle.std.proofs.lemmas.List.{map-append}
 use Rattle.lake_types.specs.Cells.{laid_cells}
-use Rattle.lake_types.specs.declared.value.ColType.{ColType}
 use Rattle.lake_types.specs.declared.value.Column.{Column}
 use Rattle.lake_types.specs.declared.value.Row.{Row}
 use Rattle.lake_types.specs.declared.value.Value.{Value}
 use Rattle.lake_model.specs.Apply.{Cells, Draft, altered, at_field, drafted, fresh_from, is_named, left, numbered, promoted, renamed, set_cells, settled_table, updated_row, with_column, with_default, with_rows, with_updates, without_column, without_rows, worked}
 use Rattle.lake_model.specs.Laws.{CellsStand, HasCells, HasCellsOf, fields_of}
-use Rattle.lake_model.specs.State.{State, Table}
 use Rattle.lake_model.specs.declared.change.Change.{Change}
 use Rattle.lake_model.specs.declared.change.Change.TheVariants as change
 use Rattle.lake_model.specs.declared.change.RowRef.{RowRef}
 use Rattle.lake_model.specs.declared.change.RowRef.TheVariants as row_ref
-use Rattle.lake_model.proofs.TableLemmas.{all-joined, all-mapped, at-holds, drafts-hold}
+use Rattle.lake_model.proofs.TableLemmas.{all-joined, all-left, all-mapped, at-holds, drafts-hold}
 
 -- ---- a row
 
@@ -87,14 +85,6 @@ columns-stand d columns same h = record {
     fresh (None ∷ os) k = (tt, fresh os k.1)
     fresh (Some cells ∷ os) k = (k.0 ∙ sym same, fresh os k.1)
 
-rows-left : (columns : List Column) (p : Row → Bool) (rs : List Row) → AllByRecursion (RowOf columns) rs → AllByRecursion (RowOf columns) (filter p rs)
-rows-left columns p [] h = tt
-rows-left columns p (r ∷ rs) h = go (p r) refl (rows-left columns p rs h.1)
-  where
-    go : (b : Bool) → p r ≡ b → AllByRecursion (RowOf columns) (filter p rs) → AllByRecursion (RowOf columns) (filter p (r ∷ rs))
-    go true e rest = rw e (h.0, rest)
-    go false e rest = rw e rest
-
 fresh-stand : (columns : List Column) (n : ℕ) (rows : List RowRef) (f : Cells → Option Cells) → ((cells : Cells) → HasCellsOf columns cells → FreshOf columns (f cells))
     → (os : List (Option Cells)) → AllByRecursion (FreshOf columns) os → AllByRecursion (FreshOf columns) (fresh_from n rows f os)
 fresh-stand columns n rows f step [] h = tt
@@ -148,11 +138,13 @@ altered-stands (change.Insert table rows) d h =
     (record { rows = h.rows; fresh = all-joined (FreshOf d.columns) d.fresh (map (λ cells. Some (laid_cells d.columns cells)) rows) h.fresh (laid-all d.columns rows) })
 altered-stands (change.Delete table rows) d h =
     at-holds Stands table (without_rows rows) d h
-    (record { rows = rows-left d.columns (λ r. not (is_named rows (row_ref.Old r.id))) d.rows h.rows; fresh = fresh-stand d.columns 0 rows (λ cells. None) (λ cells k. tt) d.fresh h.fresh })
+    (record { rows = all-left (RowOf d.columns) (λ r. not (is_named rows (row_ref.Old r.id))) d.rows h.rows; fresh = fresh-stand d.columns 0 rows (λ cells. None) (λ cells k. tt) d.fresh h.fresh })
 altered-stands (change.Update table rows set) d h =
     at-holds Stands table (with_updates rows set) d h
-    (record { rows = all-mapped (RowOf d.columns) (RowOf d.columns) (updated_row rows set) (updated-stands d.columns rows set) d.rows h.rows;
-      fresh = fresh-stand d.columns 0 rows (λ cells. Some (set_cells set cells)) (λ cells k. set-stands set cells ∙ k) d.fresh h.fresh })
+    (record {
+      rows = all-mapped (RowOf d.columns) (RowOf d.columns) (updated_row rows set) (updated-stands d.columns rows set) d.rows h.rows;
+      fresh = fresh-stand d.columns 0 rows (λ cells. Some (set_cells set cells)) (λ cells k. set-stands set cells ∙ k) d.fresh h.fresh;
+    })
 altered-stands c d h = h
 
 -- ---- the whole list

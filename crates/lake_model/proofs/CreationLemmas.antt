@@ -1,12 +1,9 @@
 -- What a list creates and leaves, of any list of changes.
-use Rattle.std.proofs.Common.{◌≡◌, ℕ, ◌+◌, ◌==◌, Bool, true, false, cond, List, [], ◌∷◌, ◌++◌, map, filter, refl, sym, ap, ap₂, ◌∙◌, append_assoc, append-nil, arith}
-use Rattle.std.specs.Prelude.{Option, Some, None, not, ◌||◌, fold, option_map}
-use Rattle.std.specs.List.{cons_option, filter_map}
+use Rattle.std.proofs.Common.{◌≡◌, ℕ, ◌+◌, ◌==◌, Bool, true, false, cond, List, [], ◌∷◌, ◌++◌, filter, refl, sym, ap, ap₂, ◌∙◌, append_assoc, append-nil, arith}
+use Rattle.std.specs.Prelude.{Some, None, not, ◌||◌, fold, option_map}
 use Rattle.std.proofs.lemmas.List.Elements.{filter-append}
-use Rattle.lake_types.specs.declared.kind.SchemaName.{SchemaName}
-use Rattle.lake_types.specs.declared.value.Column.{Column}
-use Rattle.lake_model.specs.Apply.{Creation, Draft, NewSchema, NewTable, SchemaDraft, Work, altered, at_table, begun, changed, created, is_created_schema, is_created_table, is_ref, promoted, renamed, with_column, with_default, with_rows, with_updates, without_column, without_rows, worked}
-use Rattle.lake_model.specs.ByTable.{draft_after, made_from}
+use Rattle.lake_model.specs.Apply.{Creation, Draft, NewSchema, NewTable, SchemaDraft, Work, altered, at_table, begun, changed, is_created_schema, is_created_table, is_ref, promoted, renamed, with_column, with_default, with_rows, with_updates, without_column, without_rows, worked}
+use Rattle.lake_model.specs.ByTable.{draft_after}
 use Rattle.lake_model.specs.Creations.{creations, made_schemas}
 use Rattle.lake_model.specs.Kinds.{drops_schema, drops_table, is_drop_of_table}
 use Rattle.lake_model.specs.State.{State}

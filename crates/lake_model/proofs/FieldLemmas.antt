@@ -1,6 +1,6 @@
 -- The field ids of columns.
 use Rattle.std.proofs.Common.{◌≡◌, ℕ, ◌+◌, ◌<◌, ◌≤◌, ◌==◌, List, [], ◌∷◌, ◌++◌, map, filter, length, refl, sym, ap, subst, ◌∙◌, arith, Bool, true, false, true≢false}
-use Rattle.std.specs.Prelude.{Option, Some, None, not, find, fold}
+use Rattle.std.specs.Prelude.{Some, not, find, fold}
 use Rattle.std.specs.List.{AllByRecursion}
 use Rattle.std.proofs.lemmas.Bool.{ne_eqb}
 use Rattle.std.proofs.lemmas.List.{map-append}
@@ -14,8 +14,8 @@ use Rattle.lake_types.specs.declared.stmt.Stmt.TheVariants as stmt
 use Rattle.lake_types.specs.declared.stmt.TableName.{TableName}
 use Rattle.lake_types.specs.declared.value.Column.{Column}
 use Rattle.lake_model.specs.Apply.{Cells, Draft, Work, altered, at_field, at_table, begun, changed, created, drafted, fields_from, is_ref, promoted, renamed, settled_table, with_column, with_default, with_rows, with_updates, without_column, without_rows, worked}
-use Rattle.lake_model.specs.Fits.{Fits, FitsFrom, IsAllowed}
-use Rattle.lake_model.specs.Laws.{FieldIdsRise, HasCatalogIds, HasFieldIds, RiseBelow, fields_of, table_ids}
+use Rattle.lake_model.specs.Fits.{FitsFrom, IsAllowed}
+use Rattle.lake_model.specs.Laws.{FieldIdsRise, HasFieldIds, RiseBelow, fields_of}
 use Rattle.lake_model.specs.Plans as p
 use Rattle.lake_model.specs.Rows as r
 use Rattle.lake_model.specs.State.{State, Table}
@@ -30,7 +30,7 @@ use Rattle.lake_model.proofs.CreationLemmas.{altered-at}
 use Rattle.lake_model.proofs.PlanLemmas as plan
 use Rattle.lake_model.proofs.PlanLemmas.{found-has}
 use Rattle.lake_model.proofs.RiseLemmas.{rise-filter, rise-join}
-use Rattle.lake_model.proofs.TableLemmas.{all-joined, all-mapped, at-holds}
+use Rattle.lake_model.proofs.TableLemmas.{all-joined, all-left, all-mapped, at-holds}
 
 -- ---- a draft
 
@@ -153,14 +153,6 @@ differ-new n new e [] below h = (tt, tt)
 differ-new n new e (d ∷ ds) below h =
     (all-joined (λ (x : Draft). is_ref x.at d.at ≡ false) ds (new ∷ []) h.0 (ap (λ at. is_ref at d.at) e ∙ new_ref n d.at below.0, tt), differ-new n new e ds below.1 h.1)
 
-all-left : (P : Draft → Type 0) (q : Draft → Bool) (ds : List Draft) → AllByRecursion P ds → AllByRecursion P (filter q ds)
-all-left P q [] h = tt
-all-left P q (d ∷ ds) h = go (q d) refl (all-left P q ds h.1)
-  where
-    go : (b : Bool) → q d ≡ b → AllByRecursion P (filter q ds) → AllByRecursion P (filter q (d ∷ ds))
-    go true e rest = rw e (h.0, rest)
-    go false e rest = rw e rest
-
 differ-left : (q : Draft → Bool) (ds : List Draft) → Differ ds → Differ (filter q ds)
 differ-left q [] h = tt
 differ-left q (d ∷ ds) h = go (q d) refl (all-left (λ (x : Draft). is_ref x.at d.at ≡ false) q ds h.0) (differ-left q ds h.1)
@@ -171,9 +163,11 @@ differ-left q (d ∷ ds) h = go (q d) refl (all-left (λ (x : Draft). is_ref x.a
 
 differ-altered : (c : Change) (ds : List Draft) → Differ ds → Differ (map (altered c) ds)
 differ-altered c [] h = tt
-differ-altered c (d ∷ ds) h =
-    (all-mapped (λ (x : Draft). is_ref x.at d.at ≡ false) (λ (x : Draft). is_ref x.at (altered c d).at ≡ false) (altered c)
-    (λ x k. ap (λ at. is_ref at (altered c d).at) (altered-at c x) ∙ ap (is_ref x.at) (altered-at c d) ∙ k) ds h.0, differ-altered c ds h.1)
+differ-altered c (d ∷ ds) h = (
+  all-mapped (λ (x : Draft). is_ref x.at d.at ≡ false) (λ (x : Draft). is_ref x.at (altered c d).at ≡ false) (altered c)
+      (λ x k. ap (λ at. is_ref at (altered c d).at) (altered-at c x) ∙ ap (is_ref x.at) (altered-at c d) ∙ k) ds h.0,
+  differ-altered c ds h.1,
+)
 
 fields-altered : (c : Change) (ds : List Draft) → AllByRecursion (NextFor c) ds → AllByRecursion Fields ds → AllByRecursion Fields (map (altered c) ds)
 fields-altered c [] next h = tt

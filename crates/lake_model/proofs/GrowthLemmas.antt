@@ -1,19 +1,19 @@
 -- A list that only creates, drops and inserts.
-use Rattle.std.proofs.Common.{◌≡◌, ℕ, ◌+◌, ◌≤◌, List, [], ◌∷◌, ◌++◌, cond, map, filter, length, refl, sym, ap, ap₂, subst, ◌∙◌, append_assoc, append-nil, arith, Bool, true, false}
-use Rattle.std.specs.Prelude.{Option, Some, None, not}
+use Rattle.std.proofs.Common.{◌≡◌, ℕ, ◌+◌, List, [], ◌∷◌, ◌++◌, cond, map, filter, length, refl, sym, ap, ap₂, subst, ◌∙◌, append_assoc, append-nil, Bool, true, false}
+use Rattle.std.specs.Prelude.{Some, None, not}
 use Rattle.std.specs.List.{AllByRecursion, cons_option, filter_map}
 use Rattle.std.proofs.lemmas.List.{length-map, map-append}
 use Rattle.lake_types.specs.Cells.{laid_cells}
 use Rattle.lake_types.specs.declared.kind.SchemaName.{SchemaName}
 use Rattle.lake_types.specs.declared.value.Column.{Column}
-use Rattle.lake_model.specs.Apply.{Cells, Creation, Draft, NewSchema, NewTable, SchemaDraft, apply, at_table, begun, created, drafted, drafted_schema, is_ref, left, numbered, settled_schema, settled_table, table_id, with_rows, worked}
+use Rattle.lake_model.specs.Apply.{Cells, Creation, Draft, at_table, begun, created, drafted, drafted_schema, is_ref, left, numbered, settled_schema, settled_table, table_id, with_rows, worked}
 use Rattle.lake_model.specs.ByTable.{draft_after, made_from}
 use Rattle.lake_model.specs.Creations.{creations, made_schemas}
 use Rattle.lake_model.specs.Growth as growth
 use Rattle.lake_model.specs.Growth.{IsGrowth, grown, grown_state, made_tables, new_schemas, new_tables, rows_for, with_own_rows}
 use Rattle.lake_model.specs.Kinds.{drops_schema, drops_table}
-use Rattle.lake_model.specs.Laws.{AreApart, GrowsByTable, HasNewIds, NewIdsRise, RiseBelow}
-use Rattle.lake_model.specs.State.{State, Table}
+use Rattle.lake_model.specs.Laws.{GrowsByTable, HasNewIds, NewIdsRise}
+use Rattle.lake_model.specs.State.{Table}
 use Rattle.lake_model.specs.declared.change.Change.{Change}
 use Rattle.lake_model.specs.declared.change.Change.TheVariants as change
 use Rattle.lake_model.specs.declared.change.Ref.{Ref}
@@ -123,13 +123,13 @@ grows_by_table s own h =
     let new = creations 0 0 own in
     let next = s.next_catalog in
     let schemas : map (settled_schema next new) (worked s own).schemas ≡ growth.left_schemas s own ++ new_schemas next own =
-        ap (map (settled_schema next new)) (schemas-after own (begun s))
-        ∙ map-append (settled_schema next new) (left_schemas own (map drafted_schema s.schemas)) (made_schemas 0 own)
-        ∙ ap (λ l. l ++ new_schemas next own) (old-schemas next new own s.schemas) in
+    ap (map (settled_schema next new)) (schemas-after own (begun s))
+    ∙ map-append (settled_schema next new) (left_schemas own (map drafted_schema s.schemas)) (made_schemas 0 own)
+    ∙ ap (λ l. l ++ new_schemas next own) (old-schemas next new own s.schemas) in
     let tables : map (settled_table next new) (worked s own).tables ≡ map (grown own) (growth.left_tables s own) ++ new_tables next own =
-        ap (map (settled_table next new)) (by_table s own)
-        ∙ map-append (settled_table next new) (filter_map (draft_after own) (map drafted s.tables)) (made_from 0 own)
-        ∙ ap₂ (λ olds mades. olds ++ map (settled_table next new) mades) (old-tables next new own s.tables h) (made-tables 0 own h) in
+    ap (map (settled_table next new)) (by_table s own)
+    ∙ map-append (settled_table next new) (filter_map (draft_after own) (map drafted s.tables)) (made_from 0 own)
+    ∙ ap₂ (λ olds mades. olds ++ map (settled_table next new) mades) (old-tables next new own s.tables h) (made-tables 0 own h) in
     ap (λ cs. record { schemas = map (settled_schema next cs) (worked s own).schemas; tables = map (settled_table next cs) (worked s own).tables; next_catalog = next + length cs }) (created-worked s own)
     ∙ ap₂ (λ ss ts. record { schemas = ss; tables = ts; next_catalog = next + length new }) schemas tables
 

@@ -1,16 +1,12 @@
 -- The ids of rows rise below their counter.
 use Rattle.std.proofs.Common.{◌≡◌, ℕ, ◌+◌, ◌<◌, List, [], ◌∷◌, ◌++◌, ◌==◌, map, filter, length, refl, sym, ap, subst, arith, Bool, true, false}
-use Rattle.std.specs.Prelude.{Option, Some, None, not}
-use Rattle.std.specs.List.{AllByRecursion, cons_option, filter_map}
+use Rattle.std.specs.Prelude.{not}
+use Rattle.std.specs.List.{AllByRecursion}
 use Rattle.lake_types.specs.declared.value.Row.{Row}
-use Rattle.lake_model.specs.Apply.{Cells, Draft, altered, at_table, created, drafted, is_named, is_ref, left, numbered, promoted, renamed, settled_table, updated_row, with_column, with_default, with_rows, with_updates, without_column, without_rows, worked}
-use Rattle.lake_model.specs.ByTable.{draft_after, made_from, tables_after}
+use Rattle.lake_model.specs.Apply.{Cells, Draft, altered, drafted, is_named, left, numbered, promoted, renamed, settled_table, updated_row, with_column, with_default, with_rows, with_updates, without_column, without_rows, worked}
 use Rattle.lake_model.specs.Laws.{HasRowIds, RiseBelow, RowIdsRise}
-use Rattle.lake_model.specs.Kinds.{is_drop_of_table}
-use Rattle.lake_model.specs.State.{State, Table}
 use Rattle.lake_model.specs.declared.change.Change.{Change}
 use Rattle.lake_model.specs.declared.change.Change.TheVariants as change
-use Rattle.lake_model.specs.declared.change.Ref.{Ref}
 use Rattle.lake_model.specs.declared.change.RowRef.{RowRef}
 use Rattle.lake_model.specs.declared.change.RowRef.TheVariants as row_ref
 use Rattle.lake_model.proofs.RiseLemmas.{rise-filter}

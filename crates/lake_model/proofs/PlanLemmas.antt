@@ -5,10 +5,9 @@ use Rattle.std.specs.List.{AllByRecursion}
 use Rattle.lake_types.specs.declared.stmt.Stmt.{Stmt}
 use Rattle.lake_types.specs.declared.stmt.TableName.{TableName}
 use Rattle.lake_types.specs.declared.value.Column.{Column}
-use Rattle.lake_model.specs.Apply.{Cells, Draft, Work, worked}
+use Rattle.lake_model.specs.Apply.{Draft, Work, worked}
 use Rattle.lake_model.specs.Plans as p
 use Rattle.lake_model.specs.Plans.{Plan, Append, Leave, Refuse, unless}
-use Rattle.lake_model.specs.Rows as r
 use Rattle.lake_model.specs.State.{State}
 use Rattle.lake_model.specs.Step as s
 use Rattle.lake_model.specs.declared.answer.Answer.{Answer}

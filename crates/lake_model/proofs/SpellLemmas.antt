@@ -1,7 +1,7 @@
 -- The kinds that a version's text spells.
-use Rattle.std.proofs.Common.{◌≡◌, ◌≢◌, ℕ, zero, suc, ◌+◌, ◌-◌, ◌<◌, ◌≤◌, ◌^◌, ◌==◌, List, [], ◌∷◌, ◌++◌, map, filter, length, refl, sym, ap, subst, ◌∙◌, arith, Bool, true, false}
-use Rattle.std.specs.Prelude.{Option, Some, None, IsSome, not, find, fold, option_map, unwrap_or, slice_index_or}
-use Rattle.std.specs.List.{AllByRecursion, list_any}
+use Rattle.std.proofs.Common.{◌≡◌, ℕ, ◌+◌, ◌-◌, ◌<◌, ◌≤◌, ◌^◌, ◌==◌, List, [], ◌∷◌, ◌++◌, map, length, refl, sym, ap, subst, ◌∙◌, arith, Bool, true, false}
+use Rattle.std.specs.Prelude.{Option, Some, None, IsSome, not, find, option_map, unwrap_or, slice_index_or}
+use Rattle.std.specs.List.{AllByRecursion}
 use Rattle.std.specs.declared.cmp.Ordering.{Ordering}
 use Rattle.std.specs.declared.cmp.Ordering.TheVariants.{Less, Equal, Greater}
 use Rattle.std.proofs.lemmas.Bool.{eq-eqb, eqb-true}
@@ -16,11 +16,11 @@ use Rattle.lake_types.specs.declared.stmt.Cell.{Cell}
 use Rattle.lake_types.specs.declared.stmt.Stmt.{Stmt}
 use Rattle.lake_types.specs.declared.stmt.Stmt.TheVariants as stmt
 use Rattle.lake_types.specs.declared.stmt.TableName.{TableName}
-use Rattle.lake_model.specs.Apply.{Cells, Draft, SchemaDraft, Work, altered, begun, changed, created, drafted, drafted_schema, is_ref, worked}
-use Rattle.lake_model.specs.Core.{AreSpelled, Core, HaveKinds, Version, first_version, head, next_version, version_at, with_version}
-use Rattle.lake_model.specs.Fits.{Fits, FitsFrom, IsAllowed}
-use Rattle.lake_model.specs.Kinds.{dropped_schema, dropped_table, drops_table, kinds, kinds_at, kinds_by, kinds_from, kinds_of_old, leaves_fresh, names_old, of_table, only_if, put, put_all, schemas_after, tables_after}
-use Rattle.lake_model.specs.Laws.{FitsKnown, HasCatalogIds, IsKnown, KindsAreSpelled, KnownSchema, KnownTable, RiseBelow, VersionsHaveKinds}
+use Rattle.lake_model.specs.Apply.{Cells, Draft, SchemaDraft, Work, altered, changed, created, drafted, drafted_schema, is_ref, worked}
+use Rattle.lake_model.specs.Core.{AreSpelled, HaveKinds, Version, first_version, head, next_version, version_at, with_version}
+use Rattle.lake_model.specs.Fits.{FitsFrom, IsAllowed}
+use Rattle.lake_model.specs.Kinds.{dropped_schema, dropped_table, drops_table, kinds, kinds_at, kinds_from, kinds_of_old, leaves_fresh, names_old, of_table, only_if, put, put_all, schemas_after, tables_after}
+use Rattle.lake_model.specs.Laws.{FitsKnown, IsKnown, KindsAreSpelled, KnownSchema, KnownTable, RiseBelow, VersionsHaveKinds}
 use Rattle.lake_model.specs.Plans as p
 use Rattle.lake_model.specs.Rows as r
 use Rattle.lake_model.specs.State.{State, Table}
@@ -35,7 +35,7 @@ use Rattle.lake_model.proofs.FieldLemmas.{worked-more}
 use Rattle.lake_model.proofs.KindLemmas.{kinds-order}
 use Rattle.lake_model.proofs.PlanLemmas as plan
 use Rattle.lake_model.proofs.PlanLemmas.{found-has, found-passes}
-use Rattle.lake_model.proofs.TableLemmas.{all-joined, all-mapped}
+use Rattle.lake_model.proofs.TableLemmas.{all-joined, all-left, all-mapped}
 
 -- ---- what holds of each kind of a list
 
@@ -159,14 +159,6 @@ versions_have_kinds core own some known h = go core.versions refl
 record Known (names : List SchemaName) (w : Work) : Type 0 where
   schemas : AllByRecursion (λ (x : SchemaDraft). KnownSchema names x.at) w.schemas
   tables : AllByRecursion (λ (d : Draft). KnownTable d.at) w.tables
-
-all-left : {X : Type 0} (P : X → Type 0) (q : X → Bool) (xs : List X) → AllByRecursion P xs → AllByRecursion P (filter q xs)
-all-left P q [] h = tt
-all-left P q (x ∷ xs) h = go (q x) refl (all-left P q xs h.1)
-  where
-    go : (b : Bool) → q x ≡ b → AllByRecursion P (filter q xs) → AllByRecursion P (filter q (x ∷ xs))
-    go true e rest = rw e (h.0, rest)
-    go false e rest = rw e rest
 
 altered-known : (names : List SchemaName) (w : Work) (c : Change) → Known names w → Known names (record w { tables = map (altered c) w.tables })
 altered-known names w c h = record {

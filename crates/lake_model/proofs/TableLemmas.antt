@@ -1,10 +1,10 @@
 -- What holds of each table after a list, where each change of a table keeps it and a new table has it.
-use Rattle.std.proofs.Common.{◌≡◌, ℕ, ◌+◌, List, [], ◌∷◌, ◌++◌, map, refl, sym, subst, Bool, true, false}
+use Rattle.std.proofs.Common.{◌≡◌, ℕ, ◌+◌, List, [], ◌∷◌, ◌++◌, map, filter, refl, sym, subst, Bool, true, false}
 use Rattle.std.specs.Prelude.{Option, Some, None}
 use Rattle.std.specs.List.{AllByRecursion, cons_option, filter_map}
 use Rattle.lake_types.specs.declared.value.Column.{Column}
 use Rattle.lake_model.specs.Apply.{Draft, altered, at_table, created, drafted, is_ref, worked}
-use Rattle.lake_model.specs.ByTable.{draft_after, made_from, tables_after}
+use Rattle.lake_model.specs.ByTable.{draft_after, made_from}
 use Rattle.lake_model.specs.Kinds.{is_drop_of_table}
 use Rattle.lake_model.specs.State.{State}
 use Rattle.lake_model.specs.declared.change.Change.{Change}
@@ -23,6 +23,15 @@ at-holds P table f d h k = go (is_ref d.at table) refl
 pub all-joined : {X : Type 0} (P : X → Type 0) (xs ys : List X) → AllByRecursion P xs → AllByRecursion P ys → AllByRecursion P (xs ++ ys)
 all-joined P [] ys h k = k
 all-joined P (x ∷ xs) ys h k = (h.0, all-joined P xs ys h.1 k)
+
+-- what holds of each element holds of those that pass a test
+pub all-left : {X : Type 0} (P : X → Type 0) (q : X → Bool) (xs : List X) → AllByRecursion P xs → AllByRecursion P (filter q xs)
+all-left P q [] h = tt
+all-left P q (x ∷ xs) h = go (q x) refl (all-left P q xs h.1)
+  where
+    go : (b : Bool) → q x ≡ b → AllByRecursion P (filter q xs) → AllByRecursion P (filter q (x ∷ xs))
+    go true e rest = rw e (h.0, rest)
+    go false e rest = rw e rest
 
 -- what holds of each element holds of what a function makes of them
 pub all-mapped : {X Y : Type 0} (P : X → Type 0) (Q : Y → Type 0) (f : X → Y) → ((x : X) → P x → Q (f x)) → (xs : List X) → AllByRecursion P xs → AllByRecursion Q (map f xs)

@@ -1,6 +1,5 @@
 -- What a list that only creates, drops and inserts makes of a state, table by table.
-use Rattle.std.specs.Prelude.{ℕ, ◌+◌, ◌≤◌, not, Bool, List, [], ◌∷◌, ◌++◌, filter, length, map, if◌then◌else◌}
-use Rattle.std.specs.List.{AllByRecursion}
+use Rattle.std.specs.Prelude.{ℕ, ◌+◌, not, List, [], ◌∷◌, ◌++◌, filter, length, map, if◌then◌else◌}
 use Rattle.lake_types.specs.Cells.{laid_cells}
 use Rattle.lake_types.specs.declared.kind.SchemaName.{SchemaName}
 use Rattle.lake_model.specs.Apply.{Cells, Draft, created, is_ref, numbered, settled_schema, settled_table, with_rows}
