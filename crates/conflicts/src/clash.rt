@@ -90,7 +90,7 @@ fn first_against<'a>(mine: &'a [Kind], theirs: &Kind) -> Option<&'a Kind>
 /// The first conflict with the kinds of one snapshot, by theirs in order and then by mine; none where no kind of
 /// mine conflicts with one of theirs. Mine stands in the order of a changes text, each kind once.
 ///
-/// It takes no memory. Each of theirs is looked up in mine by at most seven binary searches, so that the time
+/// It takes no memory. Each of theirs is looked up in mine by at most five binary searches, so that the time
 /// grows with the number of theirs times the logarithm of the number of mine. Dropped schemas stand by id and
 /// conflict by name: for each of theirs that creates a table or drops a schema, the schemas that mine drops are
 /// gone through.

@@ -11,7 +11,7 @@ use Rattle.lake_model.specs.declared.change.Change.TheVariants as change
 use Rattle.lake_model.specs.declared.change.Ref.{Ref}
 use Rattle.lake_model.specs.declared.change.Ref.TheVariants as ref
 
--- a change that leaves the rows and columns that stand
+-- a change that creates a thing, drops it whole or inserts rows
 abbrev pub IsGrowth : Change → Type 0
 IsGrowth (change.CreateSchema name) = Unit {0}
 IsGrowth (change.DropSchema schema) = Unit {0}
