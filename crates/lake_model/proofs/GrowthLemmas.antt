@@ -1,19 +1,23 @@
--- A list that only creates, drops and inserts.
-use Rattle.std.proofs.Common.{◌≡◌, ℕ, ◌+◌, List, [], ◌∷◌, ◌++◌, cond, map, filter, length, refl, sym, ap, ap₂, subst, ◌∙◌, append_assoc, append-nil, Bool, true, false}
-use Rattle.std.specs.Prelude.{Some, None, not}
+-- A list that only creates, drops and inserts; and of any list, its new ids and the schemas that it leaves.
+use Rattle.std.proofs.Common.{◌≡◌, ℕ, ◌+◌, ◌≤◌, ◌<◌, ◌==◌, arith, List, [], ◌∷◌, ◌++◌, cond, map, filter, length, refl, sym, ap, ap₂, subst, ◌∙◌, append_assoc, append-nil, Bool, true, false}
+use Rattle.std.specs.Prelude.{Option, Some, None, not, find, option_map}
 use Rattle.std.specs.List.{AllByRecursion, cons_option, filter_map}
+use Rattle.std.specs.Option.{option_or}
+use Rattle.std.proofs.lemmas.Bool.{eqb-true, ne_eqb}
 use Rattle.std.proofs.lemmas.List.{length-map, map-append}
+use Rattle.std.proofs.lemmas.List.Folds.{find-append}
 use Rattle.lake_types.specs.Cells.{laid_cells}
+use Rattle.lake_types.specs.Kinds.{name_of}
 use Rattle.lake_types.specs.declared.kind.SchemaName.{SchemaName}
 use Rattle.lake_types.specs.declared.value.Column.{Column}
-use Rattle.lake_model.specs.Apply.{Cells, Creation, Draft, at_table, begun, created, drafted, drafted_schema, is_ref, left, numbered, settled_schema, settled_table, table_id, with_rows, worked}
+use Rattle.lake_model.specs.Apply.{Cells, Creation, Draft, apply, at_table, begun, created, drafted, drafted_schema, is_ref, left, numbered, settled_schema, settled_table, table_id, with_rows, worked}
 use Rattle.lake_model.specs.ByTable.{draft_after, made_from}
 use Rattle.lake_model.specs.Creations.{creations, made_schemas}
 use Rattle.lake_model.specs.Growth as growth
 use Rattle.lake_model.specs.Growth.{IsGrowth, grown, grown_state, made_tables, new_schemas, new_tables, rows_for, with_own_rows}
 use Rattle.lake_model.specs.Kinds.{drops_schema, drops_table}
-use Rattle.lake_model.specs.Laws.{GrowsByTable, HasNewIds, NewIdsRise}
-use Rattle.lake_model.specs.State.{Table}
+use Rattle.lake_model.specs.Laws.{GrowsByTable, HasNewIds, NewIdsRise, SchemasStay}
+use Rattle.lake_model.specs.State.{State, Table}
 use Rattle.lake_model.specs.declared.change.Change.{Change}
 use Rattle.lake_model.specs.declared.change.Change.TheVariants as change
 use Rattle.lake_model.specs.declared.change.Ref.{Ref}
@@ -118,20 +122,24 @@ old-schemas next new own (x ∷ ss) = go (drops_schema own (ref.Old x.id)) refl 
     go true e more = rw e more
     go false e more = rw e (ap (λ l. x ∷ l) more)
 
+-- of any list
+pub schemas-left : (s : State) (own : List Change) → map (settled_schema s.next_catalog (creations 0 0 own)) (worked s own).schemas ≡ growth.left_schemas s own ++ new_schemas s.next_catalog own
+schemas-left s own =
+    let settle = settled_schema s.next_catalog (creations 0 0 own) in
+    ap (map settle) (schemas-after own (begun s))
+    ∙ map-append settle (left_schemas own (map drafted_schema s.schemas)) (made_schemas 0 own)
+    ∙ ap (λ l. l ++ new_schemas s.next_catalog own) (old-schemas s.next_catalog (creations 0 0 own) own s.schemas)
+
 pub grows_by_table : GrowsByTable
 grows_by_table s own h =
     let new = creations 0 0 own in
     let next = s.next_catalog in
-    let schemas : map (settled_schema next new) (worked s own).schemas ≡ growth.left_schemas s own ++ new_schemas next own =
-    ap (map (settled_schema next new)) (schemas-after own (begun s))
-    ∙ map-append (settled_schema next new) (left_schemas own (map drafted_schema s.schemas)) (made_schemas 0 own)
-    ∙ ap (λ l. l ++ new_schemas next own) (old-schemas next new own s.schemas) in
     let tables : map (settled_table next new) (worked s own).tables ≡ map (grown own) (growth.left_tables s own) ++ new_tables next own =
     ap (map (settled_table next new)) (by_table s own)
     ∙ map-append (settled_table next new) (filter_map (draft_after own) (map drafted s.tables)) (made_from 0 own)
     ∙ ap₂ (λ olds mades. olds ++ map (settled_table next new) mades) (old-tables next new own s.tables h) (made-tables 0 own h) in
     ap (λ cs. record { schemas = map (settled_schema next cs) (worked s own).schemas; tables = map (settled_table next cs) (worked s own).tables; next_catalog = next + length cs }) (created-worked s own)
-    ∙ ap₂ (λ ss ts. record { schemas = ss; tables = ts; next_catalog = next + length new }) schemas tables
+    ∙ ap₂ (λ ss ts. record { schemas = ss; tables = ts; next_catalog = next + length new }) (schemas-left s own) tables
 
 -- ---- new ids
 
@@ -173,3 +181,53 @@ new_ids_rise next own =
       tables_new = numbers-beyond next new (filter (λ c. not (is_schema c)) new);
       apart = parts-apart (number next new) limit is_schema new all;
     }))
+
+-- ---- schemas by id
+
+abbrev has_id : ℕ → SchemaName → Bool
+has_id id x = x.id == id
+
+find-beyond : (id next : ℕ) (xs : List SchemaName) → id < next → AllByRecursion (λ n. next ≤ n) (map (λ (x : SchemaName). x.id) xs) → find (has_id id) xs ≡ None
+find-beyond id next [] lt h = refl
+find-beyond id next (x ∷ xs) lt h =
+    let other : (x.id == id) ≡ false = ne_eqb x.id id (λ same. absurd (omega (arith, same, lt, h.0))) in
+    rw other (find-beyond id next xs lt h.1)
+
+find-left : (own : List Change) (id : ℕ) (xs : List SchemaName)
+    → find (has_id id) (filter (λ (x : SchemaName). not (drops_schema own (ref.Old x.id))) xs) ≡ cond (drops_schema own (ref.Old id)) None (find (has_id id) xs)
+find-left own id [] = none (drops_schema own (ref.Old id))
+  where
+    none : (b : Bool) → find (has_id id) [] ≡ cond b None (find (has_id id) [])
+    none true = refl
+    none false = refl
+find-left own id (x ∷ xs) = go (x.id == id) refl (drops_schema own (ref.Old x.id)) refl (find-left own id xs)
+  where
+    go : (b : Bool) → (x.id == id) ≡ b → (t : Bool) → drops_schema own (ref.Old x.id) ≡ t
+        → find (has_id id) (filter (λ (y : SchemaName). not (drops_schema own (ref.Old y.id))) xs) ≡ cond (drops_schema own (ref.Old id)) None (find (has_id id) xs)
+        → find (has_id id) (filter (λ (y : SchemaName). not (drops_schema own (ref.Old y.id))) (x ∷ xs)) ≡ cond (drops_schema own (ref.Old id)) None (find (has_id id) (x ∷ xs))
+    go true e true f more =
+        let drops : drops_schema own (ref.Old id) ≡ true = ap (λ n. drops_schema own (ref.Old n)) (sym (eqb-true x.id id e)) ∙ f in
+        rw f (more ∙ ap (λ b. cond b None (find (has_id id) xs)) drops ∙ sym (ap (λ b. cond b None (find (has_id id) (x ∷ xs))) drops))
+    go true e false f more =
+        let keeps : drops_schema own (ref.Old id) ≡ false = ap (λ n. drops_schema own (ref.Old n)) (sym (eqb-true x.id id e)) ∙ f in
+        rw (f, e) (sym (ap (λ b. cond b None (Some x)) keeps))
+    go false e true f more = rw (f, e) more
+    go false e false f more = rw (f, e) more
+
+pub schemas_stay : SchemasStay
+schemas_stay s own id lt =
+    let next = s.next_catalog in
+    let all : (apply s own).schemas ≡ growth.left_schemas s own ++ new_schemas next own = ap (λ cs. map (settled_schema next cs) (worked s own).schemas) (created-worked s own) ∙ schemas-left s own in
+    let none = find-beyond id next (new_schemas next own) lt (new_ids_rise next own).schemas_new in
+    let found : find (has_id id) (apply s own).schemas ≡ cond (drops_schema own (ref.Old id)) None (find (has_id id) s.schemas) =
+    ap (find (has_id id)) all ∙ find-append (has_id id) (growth.left_schemas s own) (new_schemas next own)
+    ∙ ap₂ option_or (find-left own id s.schemas) none ∙ alone (cond (drops_schema own (ref.Old id)) None (find (has_id id) s.schemas)) in
+    ap (option_map (λ (x : SchemaName). x.name)) found ∙ named (drops_schema own (ref.Old id))
+  where
+    alone : (o : Option SchemaName) → option_or o None ≡ o
+    alone None = refl
+    alone (Some x) = refl
+
+    named : (b : Bool) → option_map (λ (x : SchemaName). x.name) (cond b None (find (has_id id) s.schemas)) ≡ cond b None (name_of s.schemas id)
+    named true = refl
+    named false = refl

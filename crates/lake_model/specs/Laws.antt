@@ -1,5 +1,5 @@
 -- What holds of the plain lake.
-use Rattle.std.specs.Prelude.{◌≡◌, ◌≢◌, ◌<◌, ◌≤◌, ◌+◌, ◌^◌, ℕ, List, [], ◌∷◌, length, map, IsSome, Option, Some, None}
+use Rattle.std.specs.Prelude.{◌≡◌, ◌≢◌, ◌<◌, ◌≤◌, ◌+◌, ◌^◌, ℕ, List, [], ◌∷◌, length, map, IsSome, Option, Some, None, if◌then◌else◌}
 use Rattle.std.specs.List.{AllByRecursion}
 use Rattle.lake_types.specs.Cells.{cell_at, laid_cells}
 use Rattle.lake_types.specs.Kinds.{AreInOrder, SaysWith, changes_text, name_of}
@@ -14,7 +14,7 @@ use Rattle.lake_model.specs.Core.{Core, HaveKinds, head, version_at, with_versio
 use Rattle.lake_model.specs.Creations.{creations}
 use Rattle.lake_model.specs.Fits.{Fits}
 use Rattle.lake_model.specs.Growth.{IsGrowth, grown_state, new_schemas, new_tables}
-use Rattle.lake_model.specs.Kinds.{kinds, table_of}
+use Rattle.lake_model.specs.Kinds.{drops_schema, kinds, table_of}
 use Rattle.lake_model.specs.Losses.{LossSort, loss_sort}
 use Rattle.lake_model.specs.Replay.{AreLosses, IsLossText, IsReplay, Lake, Line, LostWhereListed, lost_in, replay_text}
 use Rattle.lake_model.specs.State.{State, Table}
@@ -108,6 +108,12 @@ pub record HasCatalogIds (s : State) : Type 0 where
 -- a list keeps that, whatever it does
 abbrev pub CatalogIdsRise : Type 0
 CatalogIdsRise = (s : State) (own : List Change) → HasCatalogIds s → HasCatalogIds (apply s own)
+
+-- a schema of the state keeps its name until a list drops it
+abbrev pub SchemasStay : Type 0
+SchemasStay =
+    (s : State) (own : List Change) (id : ℕ) → id < s.next_catalog
+    → name_of (apply s own).schemas id ≡ (if drops_schema own (ref.Old id) then None else name_of s.schemas id)
 
 -- ---- cells
 

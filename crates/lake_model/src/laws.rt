@@ -1,6 +1,6 @@
 //! What holds of the plain lake. Each function's contract is a law, and its body is empty.
 
-ghost use Rattle.lake_model.specs.Laws.{CatalogIdsRise, CellsStand, FieldIdsRise, FitsKnown, GoesByTable, GrowsByTable, HasCatalogIds, KindsAreInOrder, KindsAreSpelled, LaysOnce, LossesHaveTexts, LostLinesAreShown, NewIdsRise, RowIdsRise, StepsLoseNothing, TextsAreReplays, VersionsHaveKinds};
+ghost use Rattle.lake_model.specs.Laws.{CatalogIdsRise, CellsStand, FieldIdsRise, FitsKnown, GoesByTable, GrowsByTable, HasCatalogIds, KindsAreInOrder, KindsAreSpelled, LaysOnce, LossesHaveTexts, LostLinesAreShown, NewIdsRise, RowIdsRise, SchemasStay, StepsLoseNothing, TextsAreReplays, VersionsHaveKinds};
 ghost use Rattle.lake_model.specs.State.{empty_state};
 
 /// The text of a replay shows which of its lines were lost, so that nothing of it is chosen.
@@ -38,6 +38,11 @@ pub fn row_ids_rise()
 pub fn catalog_ids_rise()
     ensures new { HasCatalogIds empty_state }
     ensures kept { CatalogIdsRise }
+{}
+
+/// A schema of a state keeps its id and its name until a list drops it.
+pub fn schemas_stay()
+    ensures { SchemasStay }
 {}
 
 /// Each row of a table has exactly the cells of its columns, in their order, and a list keeps that.
