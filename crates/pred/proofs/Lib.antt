@@ -1,0 +1,2 @@
+pub mod BindLemmas
+pub mod TruthLemmas
