@@ -1,0 +1,4 @@
+pub mod Names
+pub mod Writing
+pub mod Drawing
+pub mod Laws
