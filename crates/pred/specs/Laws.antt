@@ -1,11 +1,15 @@
 -- What holds of bound tests.
-use Rattle.std.specs.Prelude.{◌≡◌, ℕ, Option, true}
-use Rattle.lake_types.specs.Truth.{is_null}
+use Rattle.std.specs.Prelude.{◌≡◌, ℕ, List, Option, Some, true}
+use Rattle.lake_types.specs.Cells.{cell_at, cell_named}
+use Rattle.lake_types.specs.Truth.{chooses, is_null}
 use Rattle.lake_types.specs.declared.pred.Op.{Op}
+use Rattle.lake_types.specs.declared.pred.Pred.{Pred}
 use Rattle.lake_types.specs.declared.truth.Truth.TheVariants.{Unknown}
+use Rattle.lake_types.specs.declared.value.Column.{Column}
 use Rattle.lake_types.specs.declared.value.Value.{Value}
 use Rattle.lake_types.specs.declared.value.Value.TheVariants as value
-use Rattle.pred.specs.Bound.{bound_truth}
+use Rattle.pred.specs.Binding.{IsBinding}
+use Rattle.pred.specs.Bound.{bound_chooses, bound_truth}
 use Rattle.pred.specs.declared.bound.Bound.{Bound}
 use Rattle.pred.specs.declared.bound.Bound.TheVariants as bound
 
@@ -28,3 +32,10 @@ KeepsUnknownUnderNot =
     (cell : ℕ → Option Value) (part : Bound)
     → bound_truth cell part ≡ Unknown
     → bound_truth cell (bound.Not part) ≡ Unknown
+
+-- a bound test chooses the rows that the named one chooses
+abbrev pub ChoosesAlike : Type 0
+ChoosesAlike =
+    (columns : List Column) (pred : Pred) (one : Bound) (cells : List (ℕ × Value))
+    → IsBinding columns pred one
+    → bound_chooses (Some one) (cell_at cells) ≡ chooses (Some pred) (cell_named columns cells)
