@@ -1,4 +1,4 @@
-//! Tests of the devices in memory and of the keepers: what their clauses don't say. Each public call succeeds with
+//! Tests of the devices in memory, of the keepers and of new files: what their clauses don't say. Each public call succeeds with
 //! ample memory, and each that can fail fails once and then works.
 #![tactic(auto)]
 
@@ -8,3 +8,5 @@ mod disks;
 mod keepers;
 #[cfg(test)]
 mod streams;
+#[cfg(test)]
+mod written;

@@ -1,5 +1,6 @@
-//! Tests of the catalogue's rows and of what is beside them: batches, the cells of inlined rows, statistics of columns, and
-//! rows laid by field id. Each public call succeeds with ample memory, and gives what its format's examples say.
+//! Tests of the catalogue's rows and of what is beside them: batches, the cells of inlined rows, statistics
+//! of columns, rows laid by field id, and tests of rows. Each public call succeeds with ample memory, and
+//! gives what its format's examples say.
 #![tactic(auto)]
 
 #[cfg(test)]
@@ -10,3 +11,5 @@ mod cells;
 mod counts;
 #[cfg(test)]
 mod laid;
+#[cfg(test)]
+mod tested;
