@@ -1,0 +1,9 @@
+pub mod GroupLemmas
+pub mod HeldLemmas
+pub mod PlaceLemmas
+pub mod ColumnLemmas
+pub mod InlinedLemmas
+pub mod StatsLemmas
+pub mod FileLemmas
+pub mod BuildLemmas
+pub mod ViewLemmas

@@ -1,0 +1,14 @@
+pub mod Files
+pub mod Named
+pub mod Sight
+pub mod Held
+pub mod Groups
+pub mod Owners
+pub mod Columns
+pub mod Inlined
+pub mod Stats
+pub mod LiveFiles
+pub mod Reading
+pub mod Views
+pub mod Building
+pub mod Staged
