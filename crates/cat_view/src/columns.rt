@@ -56,7 +56,8 @@ fn add_column(
     row: Option<&ColumnRow>,
 ) -> Result<(), NoMemory>
     requires { IfSome (option_copied row) spec.SpellsColumn }
-    ensures { OnOk result ((rows : List ColumnRow) → spec.ArePlaced rows placed.old.items → spec.ArePlaced (cons_option (option_copied row.entry) rows) placed.new.items) }
+    ensures { OnOk result ((rows : List ColumnRow) → spec.ArePlaced rows placed.old.items → spec.ArePlaced
+        (cons_option (option_copied row.entry) rows) placed.new.items) }
 {
     let Some(row) = row else {
         return Ok(());

@@ -105,7 +105,8 @@ fn add_stats(
     count: u64,
 ) -> Result<(), NoMemory>
     requires { IfSome (option_copied row) (spec.CanBeRead columns.now count) }
-    ensures { OnOk result ((rows : List FileColumnStatsRow) → spec.AreRead columns.now count rows stats.old → spec.AreRead columns.now count (rows ++ cons_option (option_copied row.entry) []) stats.new) }
+    ensures { OnOk result ((rows : List FileColumnStatsRow) → spec.AreRead columns.now count rows stats.old →
+        spec.AreRead columns.now count (rows ++ cons_option (option_copied row.entry) []) stats.new) }
 {
     let Some(row) = row else {
         return Ok(());
@@ -186,8 +187,10 @@ fn file_at<F: Held>(
 ) -> Result<LiveFile<F>, NoMemory>
     requires places { live.AreFilePlaces (tables_of rows.now) places.now }
     requires known { list_any (λ id. id == row.now.data_file_id) places.now.ids.items ≡ true }
-    requires readable { live.CanBeLive F.name (held_in held.now).rows places.now.snapshot (tables_of rows.now) columns.now row.now }
-    ensures { IfOk result (live.IsLive F.name (held_in held.now).rows places.now.snapshot (tables_of rows.now) columns.now F.size F.part F.bytes row.now) }
+    requires readable { live.CanBeLive F.name (held_in held.now).rows places.now.snapshot (tables_of rows.now)
+        columns.now row.now }
+    ensures { IfOk result (live.IsLive F.name (held_in held.now).rows places.now.snapshot (tables_of rows.now)
+        columns.now F.size F.part F.bytes row.now) }
 {
     let ids = places.ids.as_slice();
     let deletes = group_of(places.deletes.as_slice(), ids, row.data_file_id);
@@ -215,11 +218,15 @@ fn add_file<F: Held>(
     row: Option<&DataFileRow>,
 ) -> Result<(), NoMemory>
     requires places { live.AreFilePlaces (tables_of rows.now) places.now }
-    requires known { IfSome (option_copied row) (λ r. list_any (λ id. id == r.data_file_id) places.now.ids.items ≡ true) }
-    requires readable { IfSome (option_copied row) (live.CanBeLive F.name (held_in held.now).rows places.now.snapshot (tables_of rows.now) columns.now) }
-    ensures { OnOk result ((seen : List DataFileRow)
-        → live.AreLive F.name (held_in held.now).rows places.now.snapshot (tables_of rows.now) columns.now F.size F.part F.bytes seen files.old.items
-        → live.AreLive F.name (held_in held.now).rows places.now.snapshot (tables_of rows.now) columns.now F.size F.part F.bytes (seen ++ cons_option (option_copied row.entry) []) files.new.items) }
+    requires known { IfSome (option_copied row) (λ r. list_any (λ id. id == r.data_file_id) places.now.ids.items ≡
+        true) }
+    requires readable { IfSome (option_copied row) (live.CanBeLive F.name (held_in held.now).rows places.now.snapshot
+        (tables_of rows.now) columns.now) }
+    ensures { OnOk result ((seen : List DataFileRow) → live.AreLive F.name (held_in held.now).rows
+        places.now.snapshot (tables_of rows.now) columns.now F.size F.part F.bytes seen files.old.items
+        → live.AreLive F.name (held_in held.now).rows places.now.snapshot (tables_of rows.now)
+        columns.now F.size F.part F.bytes (seen ++ cons_option (option_copied row.entry) [])
+        files.new.items) }
 {
     let Some(row) = row else {
         return Ok(());
@@ -240,8 +247,11 @@ pub fn files_at<F: Held>(
     data: &[usize],
 ) -> Result<Vec<Arc<LiveFile<F>>>, NoMemory>
     requires places { live.AreFilePlaces (tables_of rows.now) places.now }
-    requires readable { AllByRecursion (live.CanBeLive F.name (held_in held.now).rows places.now.snapshot (tables_of rows.now) columns.now) (rows_at (tables_of rows.now).data_file data.now) }
-    ensures { IfOk result (λ files. live.AreLive F.name (held_in held.now).rows places.now.snapshot (tables_of rows.now) columns.now F.size F.part F.bytes (rows_at (tables_of rows.now).data_file data.now) files.items) }
+    requires readable { AllByRecursion (live.CanBeLive F.name (held_in held.now).rows places.now.snapshot (tables_of
+        rows.now) columns.now) (rows_at (tables_of rows.now).data_file data.now) }
+    ensures { IfOk result (λ files. live.AreLive F.name (held_in held.now).rows places.now.snapshot (tables_of
+        rows.now) columns.now F.size F.part F.bytes (rows_at (tables_of rows.now).data_file data.now)
+        files.items) }
 {
     let mut files = Vec::new(alloc);
     for at in 0..data.len() {

@@ -68,7 +68,8 @@ impl<F: Held> HeldFiles<F> {
     pub fn add(&mut self, file: F)
         requires room { 0 < (held_in self.old).room }
         requires fresh { LacksKey (name_by F.name) (F.name file) (held_in self.old).rows }
-        ensures files { (held_in self.new).rows ≡ put (name_by F.name) (record { file = file }) (held_in self.old).rows }
+        ensures files { (held_in self.new).rows ≡ put (name_by F.name) (record { file = file }) (held_in
+            self.old).rows }
         ensures room { (held_in self.old).room ≤ (held_in self.new).room + 1 }
     {
         self.files.put_reserved(HeldFile { file });
@@ -76,7 +77,8 @@ impl<F: Held> HeldFiles<F> {
 
     /// The held file of a name.
     pub fn get(&self, name: &Words) -> Option<&F>
-        ensures { option_copied result ≡ option_map (λ h. h.file) (row_of (name_by F.name) name.now (held_in self.now).rows) }
+        ensures { option_copied result ≡ option_map (λ h. h.file) (row_of (name_by F.name) name.now (held_in
+            self.now).rows) }
     {
         match self.files.get(name) {
             Some(held) => Some(&held.file),

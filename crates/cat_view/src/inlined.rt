@@ -59,7 +59,8 @@ fn add_inlined(
     columns: &[Column],
 ) -> Result<(), NoMemory>
     requires { IfSome (option_copied row) SpellsCells }
-    ensures { OnOk result ((rows : List InlinedRow) → AreInlined columns.now rows made.old.items → AreInlined columns.now (rows ++ cons_option (option_copied row.entry) []) made.new.items) }
+    ensures { OnOk result ((rows : List InlinedRow) → AreInlined columns.now rows made.old.items → AreInlined
+        columns.now (rows ++ cons_option (option_copied row.entry) []) made.new.items) }
 {
     let Some(row) = row else {
         return Ok(());

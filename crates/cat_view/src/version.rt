@@ -50,7 +50,8 @@ fn find_named<F: Held>(tables: &[Arc<TableView<F>>], schema: u64, name: &str) ->
 
 /// The table of an id.
 fn find_table<F: Held>(tables: &[Arc<TableView<F>>], id: u64) -> Option<&TableView<F>>
-    ensures { option_map (spec.named_table F.name) (option_copied result) ≡ spec.table_at (spec.named_tables F.name tables.now) id }
+    ensures { option_map (spec.named_table F.name) (option_copied result) ≡ spec.table_at (spec.named_tables
+        F.name tables.now) id }
 {
     for table in tables {
         if table.head.id == id {
@@ -123,7 +124,8 @@ impl<F: Held> View<F> {
 
     /// The table of an id, if it is visible.
     pub fn find(&self, table: u64) -> Option<&TableView<F>>
-        ensures { option_map (spec.named_table F.name) (option_copied result) ≡ spec.table_at (spec.named_view F.name self.now).tables table }
+        ensures { option_map (spec.named_table F.name) (option_copied result) ≡ spec.table_at (spec.named_view
+            F.name self.now).tables table }
     {
         find_table(self.tables(), table)
     }
@@ -131,7 +133,8 @@ impl<F: Held> View<F> {
     /// The table of an id.
     fn visible(&self, table: u64) -> &TableView<F>
         requires { IsSome (spec.table_at (spec.named_view F.name self.now).tables table) }
-        ensures { Some (spec.named_table F.name result.now) ≡ spec.table_at (spec.named_view F.name self.now).tables table }
+        ensures { Some (spec.named_table F.name result.now) ≡ spec.table_at (spec.named_view F.name
+            self.now).tables table }
     {
         match self.find(table) {
             Some(table) => table,
@@ -142,7 +145,8 @@ impl<F: Held> View<F> {
     /// A visible table's columns, in their order.
     pub fn columns(&self, table: u64) -> &[Column]
         requires { IsSome (spec.table_at (spec.named_view F.name self.now).tables table) }
-        ensures { Some result.now ≡ option_map (λ x. x.columns) (spec.table_at (spec.named_view F.name self.now).tables table) }
+        ensures { Some result.now ≡ option_map (λ x. x.columns) (spec.table_at (spec.named_view F.name
+            self.now).tables table) }
     {
         self.visible(table).columns.as_slice()
     }
@@ -150,7 +154,8 @@ impl<F: Held> View<F> {
     /// A visible table's data files, rising by id.
     pub fn files(&self, table: u64) -> &[Arc<LiveFile<F>>]
         requires { IsSome (spec.table_at (spec.named_view F.name self.now).tables table) }
-        ensures { Some (map (λ f. spec.named_file F.name (arc_value f)) result.now) ≡ option_map (λ x. x.files) (spec.table_at (spec.named_view F.name self.now).tables table) }
+        ensures { Some (map (λ f. spec.named_file F.name (arc_value f)) result.now) ≡ option_map (λ x.
+            x.files) (spec.table_at (spec.named_view F.name self.now).tables table) }
     {
         self.visible(table).files.as_slice()
     }
@@ -158,7 +163,8 @@ impl<F: Held> View<F> {
     /// A visible table's rows that lie in the catalogue, rising by id.
     pub fn inlined(&self, table: u64) -> &[Arc<Row>]
         requires { IsSome (spec.table_at (spec.named_view F.name self.now).tables table) }
-        ensures { Some (map (λ r. arc_value r) result.now) ≡ option_map (λ x. x.inlined) (spec.table_at (spec.named_view F.name self.now).tables table) }
+        ensures { Some (map (λ r. arc_value r) result.now) ≡ option_map (λ x. x.inlined) (spec.table_at
+            (spec.named_view F.name self.now).tables table) }
     {
         self.visible(table).inlined.as_slice()
     }
@@ -166,7 +172,8 @@ impl<F: Held> View<F> {
     /// The id that a visible table's next row gets.
     pub fn next_row(&self, table: u64) -> u64
         requires { IsSome (spec.table_at (spec.named_view F.name self.now).tables table) }
-        ensures { Some result ≡ option_map (λ x. x.next_row) (spec.table_at (spec.named_view F.name self.now).tables table) }
+        ensures { Some result ≡ option_map (λ x. x.next_row) (spec.table_at (spec.named_view F.name
+            self.now).tables table) }
     {
         self.visible(table).next_row
     }
@@ -174,7 +181,8 @@ impl<F: Held> View<F> {
     /// The field id that a visible table's next column gets.
     pub fn next_field(&self, table: u64) -> u32
         requires { IsSome (spec.table_at (spec.named_view F.name self.now).tables table) }
-        ensures { Some result ≡ option_map (λ x. x.next_field) (spec.table_at (spec.named_view F.name self.now).tables table) }
+        ensures { Some result ≡ option_map (λ x. x.next_field) (spec.table_at (spec.named_view F.name
+            self.now).tables table) }
     {
         self.visible(table).next_field
     }

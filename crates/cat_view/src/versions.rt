@@ -180,7 +180,8 @@ fn table_view<F: Held>(
     requires known { list_any (λ id. id == head.id) places.now.ids.items ≡ true }
     requires readable { CanBeSeen F.name (held_in held.now).rows (tables_of rows.now) files.now.snapshot }
     requires counters { spec.HasCountersOf (tables_of rows.now) head.id }
-    ensures { IfOk result (spec.IsTableView F.name (held_in held.now).rows files.now.snapshot (tables_of rows.now) F.size F.part F.bytes head) }
+    ensures { IfOk result (spec.IsTableView F.name (held_in held.now).rows files.now.snapshot (tables_of
+        rows.now) F.size F.part F.bytes head) }
 {
     let ids = places.ids.as_slice();
     let columns = columns_at(
@@ -223,9 +224,10 @@ fn add_table<F: Held>(
     requires known { list_any (λ id. id == head.now.id) places.now.ids.items ≡ true }
     requires readable { CanBeSeen F.name (held_in held.now).rows (tables_of rows.now) files.now.snapshot }
     requires counters { spec.HasCountersOf (tables_of rows.now) head.now.id }
-    ensures { OnOk result ((heads : List TableHead)
-        → spec.AreTableViews F.name (held_in held.now).rows files.now.snapshot (tables_of rows.now) F.size F.part F.bytes heads tables.old.items
-        → spec.AreTableViews F.name (held_in held.now).rows files.now.snapshot (tables_of rows.now) F.size F.part F.bytes (heads ++ head.now ∷ []) tables.new.items) }
+    ensures { OnOk result ((heads : List TableHead) → spec.AreTableViews F.name (held_in held.now).rows
+        files.now.snapshot (tables_of rows.now) F.size F.part F.bytes heads tables.old.items →
+        spec.AreTableViews F.name (held_in held.now).rows files.now.snapshot (tables_of rows.now) F.size
+        F.part F.bytes (heads ++ head.now ∷ []) tables.new.items) }
 {
     let own = head.copy(alloc)?;
     let table = table_view(alloc, held, rows, files, places, own)?;
@@ -248,7 +250,8 @@ fn tables_at<F: Held>(
     requires known { AllByRecursion (λ h. list_any (λ id. id == h.id) places.now.ids.items ≡ true) heads.now }
     requires readable { CanBeSeen F.name (held_in held.now).rows (tables_of rows.now) files.now.snapshot }
     requires counters { AllByRecursion (λ h. spec.HasCountersOf (tables_of rows.now) h.id) heads.now }
-    ensures { IfOk result (λ tables. spec.AreTableViews F.name (held_in held.now).rows files.now.snapshot (tables_of rows.now) F.size F.part F.bytes heads.now tables.items) }
+    ensures { IfOk result (λ tables. spec.AreTableViews F.name (held_in held.now).rows files.now.snapshot
+        (tables_of rows.now) F.size F.part F.bytes heads.now tables.items) }
 {
     let mut tables = Vec::new(alloc);
     for at in 0..heads.len() {
@@ -267,7 +270,8 @@ pub fn version_at<F: Held>(
 ) -> Result<Version<F>, NoMemory>
     requires { CanBeSeen F.name (held_in held.now).rows (tables_of rows.now) snapshot }
     ensures version { IfOk result (λ v. IsVersionAt (tables_of rows.now) snapshot (named_version F.name v)) }
-    ensures counters { IfOk result (λ v. AllByRecursion (HasCounters (tables_of rows.now)) (named_version F.name v).tables) }
+    ensures counters { IfOk result (λ v. AllByRecursion (HasCounters (tables_of rows.now)) (named_version F.name
+        v).tables) }
     ensures stats { IfOk result (TellStats (tables_of rows.now)) }
     ensures files { IfOk result (AreHeld F.name F.size F.part F.bytes (held_in held.now).rows) }
 {
