@@ -2,12 +2,10 @@
 use Rattle.std.proofs.Common.{◌≡◌, ℕ, ◌==◌, Bool, true, false, cond, List, [], ◌∷◌, filter, map, Option, None, nat_lt, refl, sym, ap, ap₂, subst, ◌∙◌}
 use Rattle.std.specs.Prelude.{IfSome}
 use Rattle.std.specs.List.{AllByRecursion, AllZip, slice_get}
-use Rattle.std.proofs.lemmas.Bool.{eqb-true}
 use Rattle.lake_types.specs.declared.value.Column.{Column}
 use Rattle.cat_tables.specs.Table.{IsBelow, RisesByKey}
 use Rattle.cat_tables.specs.Validity.{Validity, is_visible, visible_at}
 use Rattle.cat_rows.specs.Keys.{data_file_key}
-use Rattle.cat_rows.specs.Seen.{seen_at}
 use Rattle.cat_rows.specs.Tables.{Tables}
 use Rattle.cat_rows.specs.Validities.{column_validity, data_file_validity, delete_file_validity, inlined_row_validity}
 use Rattle.cat_rows.specs.declared.files.DataFileRow.{DataFileRow}
@@ -22,7 +20,7 @@ use Rattle.cat_view.specs.Inlined.{SpellsCells}
 use Rattle.cat_view.specs.LiveFiles.{CanBeLive, file_ids}
 use Rattle.cat_view.specs.Named.{ordered, put_by}
 use Rattle.cat_view.specs.Owners.{column_owner, data_file_owner, delete_file_owner, inlined_owner, owner_if}
-use Rattle.cat_view.specs.Reading.{CanBeSeen, TellsStatsAt}
+use Rattle.cat_view.specs.Reading.{CanBeSeen}
 use Rattle.cat_view.specs.Sight.{column_rows}
 use Rattle.cat_view.specs.declared.held.HeldFile.{HeldFile}
 
@@ -55,19 +53,6 @@ module _ {R : Type 0} (v : Validity R) (s : ℕ) (owner : R → ℕ) where
           take : (b : Bool) → P r → AllByRecursion P (rows_of by id rows) → AllByRecursion P (cond b (r ∷ rows_of by id rows) (rows_of by id rows))
           take true h more = (h, more)
           take false h more = more
-
-  -- what an owner has is its own
-  pub owned_by : (id : ℕ) (rows : List R) → AllByRecursion (λ r. owner r ≡ id) (rows_of by id rows)
-  owned_by id [] = tt
-  owned_by id (r ∷ rows) = go (is_visible v s r) (owned_by id rows)
-    where
-      go : (b : Bool) → AllByRecursion (λ r. owner r ≡ id) (rows_of by id rows) → AllByRecursion (λ r. owner r ≡ id) (cond (is_owner id (owner_if b (owner r))) (r ∷ rows_of by id rows) (rows_of by id rows))
-      go false more = more
-      go true more = take (owner r == id) refl more
-        where
-          take : (b : Bool) → (owner r == id) ≡ b → AllByRecursion (λ r. owner r ≡ id) (rows_of by id rows) → AllByRecursion (λ r. owner r ≡ id) (cond b (r ∷ rows_of by id rows) (rows_of by id rows))
-          take true e more = (eqb-true (owner r) id e, more)
-          take false e more = more
 
   -- Without their ends they are those of the seen rows that are the owner's.
   pub owned_seen : (id : ℕ) (rows : List R) → ((r : R) → owner (v.with_end None r) ≡ owner r) → map (v.with_end None) (rows_of by id rows) ≡ filter (λ r. owner r == id) (visible_at v s rows)
@@ -139,24 +124,12 @@ module _ {F : Type 0} (name : F → List ℕ) (held : List (HeldFile F)) (t : Ta
       first_has (λ (d : DeleteFileRow). IsHeld name held d.path) (rows_of (delete_file_owner s) id t.delete_file)
       (owned_have delete_file_validity s (λ (d : DeleteFileRow). d.data_file_id) (λ (d : DeleteFileRow). IsHeld name held d.path) id t.delete_file (λ r h. h) can.delete_files)
 
-  live_from : (id : ℕ) (columns : List Column) → AllZip IsColumnOf (column_rows id (seen_at s t).column) columns → (rows : List DataFileRow)
-      → AllByRecursion (λ (f : DataFileRow). IsHeld name held f.path) rows → AllByRecursion (TellsStatsAt t s) rows → AllByRecursion (λ (f : DataFileRow). f.table_id ≡ id) rows
-      → AllByRecursion (CanBeLive name held s t columns) rows
-  live_from id columns are [] files stats own = tt
-  live_from id columns are (f ∷ rows) files stats own = (
-    record {
-      file = files.0;
-      deletes = delete_held f.data_file_id;
-      stats = stats.0 columns (subst (λ table. AllZip IsColumnOf (column_rows table (seen_at s t).column) columns) (sym own.0) are);
-    },
-    live_from id columns are rows files.1 stats.1 own.1,
-  )
+  live_from : (columns : List Column) (rows : List DataFileRow) → AllByRecursion (λ (f : DataFileRow). IsHeld name held f.path) rows → AllByRecursion (CanBeLive name held s t columns) rows
+  live_from columns [] files = tt
+  live_from columns (f ∷ rows) files = (record { file = files.0; deletes = delete_held f.data_file_id }, live_from columns rows files.1)
 
   -- the data files of a table can be read
-  pub can_live : (id : ℕ) (columns : List Column) → AllZip IsColumnOf (in_order (rows_of (column_owner s) id t.column)) columns
-      → AllByRecursion (CanBeLive name held s t columns) (rows_of (data_file_owner s) id t.data_file)
-  can_live id columns are =
-      live_from id columns (columns_seen s id t.column columns are) (rows_of (data_file_owner s) id t.data_file)
+  pub can_live : (id : ℕ) (columns : List Column) → AllByRecursion (CanBeLive name held s t columns) (rows_of (data_file_owner s) id t.data_file)
+  can_live id columns =
+      live_from columns (rows_of (data_file_owner s) id t.data_file)
       (owned_have data_file_validity s (λ (f : DataFileRow). f.table_id) (λ (f : DataFileRow). IsHeld name held f.path) id t.data_file (λ r h. h) can.data_files)
-      (owned_have data_file_validity s (λ (f : DataFileRow). f.table_id) (TellsStatsAt t s) id t.data_file (λ r h. h) can.stats)
-      (owned_by data_file_validity s (λ (f : DataFileRow). f.table_id) id t.data_file)

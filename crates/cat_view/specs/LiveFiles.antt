@@ -1,7 +1,7 @@
 -- The live files of a table, each with the row that it is of.
 use Rattle.std.specs.Prelude.{◌≡◌, ℕ, List, map, Option, IfSome}
 use Rattle.std.specs.Arc.{arc_value}
-use Rattle.std.specs.List.{AllByRecursion, AllZip, slice_get}
+use Rattle.std.specs.List.{AllZip, slice_get}
 use Rattle.std.specs.declared.sync.Arc.{Arc}
 use Rattle.lake_types.specs.declared.value.Column.{Column}
 use Rattle.cat_rows.specs.Tables.{Tables}
@@ -12,7 +12,7 @@ use Rattle.cat_view.specs.Groups.{IsGroup, id_key, rows_of}
 use Rattle.cat_view.specs.Held.{AreCopies, IsHeld}
 use Rattle.cat_view.specs.Owners.{delete_file_owner, stats_owner}
 use Rattle.cat_view.specs.Sight.{file_with}
-use Rattle.cat_view.specs.Stats.{AreRead, CanBeRead}
+use Rattle.cat_view.specs.Stats.{AreRead}
 use Rattle.cat_view.specs.Views.{named_file}
 use Rattle.cat_view.specs.declared.files.FilePlaces.{FilePlaces}
 use Rattle.cat_view.specs.declared.held.HeldFile.{HeldFile}
@@ -33,11 +33,10 @@ pub record AreFilePlaces (t : Tables) (p : FilePlaces) : Type 0 where
   pub stats_are : AllZip (IsGroup (stats_owner p.snapshot) t.file_column_stats) p.ids.items p.stats.items
 
 module _ {F : Type 0} (name : F → List ℕ) (held : List (HeldFile F)) (s : ℕ) (t : Tables) (columns : List Column) where
-  -- the files of a data file's row are held, and its statistics can be read
+  -- the files of a data file's row are held
   pub record CanBeLive (f : DataFileRow) : Type 0 where
     pub file : IsHeld name held f.path
     pub deletes : IfSome (delete_at s t.delete_file f.data_file_id) (λ (d : DeleteFileRow). IsHeld name held d.path)
-    pub stats : AllByRecursion (CanBeRead columns f.record_count) (rows_of (stats_owner s) f.data_file_id t.file_column_stats)
 
   -- a live file is that of a data file's row
   pub record IsLive (size part : F → ℕ) (bytes : F → Option (List ℕ)) (f : DataFileRow) (x : LiveFile F) : Type 0 where

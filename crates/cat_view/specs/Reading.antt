@@ -1,7 +1,7 @@
 -- When the version that a snapshot sees can be read: what it asks of the rows and of the files that are held.
 use Rattle.std.specs.Prelude.{◌≡◌, ◌<◌, ◌^◌, ◌==◌, ℕ, List, filter, Option, Some}
 use Rattle.std.specs.Arc.{arc_value}
-use Rattle.std.specs.List.{AllByRecursion, AllZip}
+use Rattle.std.specs.List.{AllByRecursion}
 use Rattle.lake_types.specs.declared.value.Column.{Column}
 use Rattle.cat_rows.specs.Seen.{seen_at}
 use Rattle.cat_rows.specs.Tables.{Tables}
@@ -10,12 +10,11 @@ use Rattle.cat_rows.specs.declared.files.DeleteFileRow.{DeleteFileRow}
 use Rattle.cat_rows.specs.declared.files.FileColumnStatsRow.{FileColumnStatsRow}
 use Rattle.cat_rows.specs.declared.files.TableStatsRow.{TableStatsRow}
 use Rattle.cat_rows.specs.declared.schemas.TableRow.{TableRow}
-use Rattle.cat_texts.specs.Spelled.{IsColumnOf}
 use Rattle.cat_view.specs.Columns.{SpellsColumn}
 use Rattle.cat_view.specs.Held.{AreCopies, IsHeld}
 use Rattle.cat_view.specs.Inlined.{SpellsCells}
-use Rattle.cat_view.specs.Sight.{column_rows, stats_row}
-use Rattle.cat_view.specs.Stats.{AreRead, CanBeRead}
+use Rattle.cat_view.specs.Sight.{stats_row}
+use Rattle.cat_view.specs.Stats.{AreRead}
 use Rattle.cat_view.specs.declared.held.HeldFile.{HeldFile}
 use Rattle.cat_view.specs.declared.live.LiveFile.{LiveFile}
 use Rattle.cat_view.specs.declared.live.TableView.{TableView}
@@ -24,25 +23,18 @@ use Rattle.cat_view.specs.declared.version.Version.{Version}
 abbrev pub file_stats : Tables → ℕ → List FileColumnStatsRow
 file_stats t id = filter (λ (r : FileColumnStatsRow). r.data_file_id == id) t.file_column_stats
 
--- the statistics of a data file can be read by the columns that its table has at the snapshot
-abbrev pub TellsStatsAt : Tables → ℕ → DataFileRow → Type 0
-TellsStatsAt t s f =
-    (columns : List Column) → AllZip IsColumnOf (column_rows f.table_id (seen_at s t).column) columns
-    → AllByRecursion (CanBeRead columns f.record_count) (file_stats t f.data_file_id)
-
 -- a table has statistics, whose next field id has 32 bits
 pub record HasStatistics (t : Tables) (r : TableRow) : Type 0 where
   pub stats : TableStatsRow
   pub there : stats_row t r.table_id ≡ Some stats
   pub field : stats.next_field_id < 2 ^ 32
 
--- Of what the snapshot sees, columns and inlined cells are spelled, files are held, and statistics can be read.
+-- Of what the snapshot sees, columns and inlined cells are spelled, files are held, and tables have statistics.
 pub record CanBeSeen {F : Type 0} (name : F → List ℕ) (held : List (HeldFile F)) (t : Tables) (s : ℕ) : Type 0 where
   pub columns : AllByRecursion SpellsColumn (seen_at s t).column
   pub inlined : AllByRecursion SpellsCells (seen_at s t).inlined_row
   pub data_files : AllByRecursion (λ (f : DataFileRow). IsHeld name held f.path) (seen_at s t).data_file
   pub delete_files : AllByRecursion (λ (d : DeleteFileRow). IsHeld name held d.path) (seen_at s t).delete_file
-  pub stats : AllByRecursion (TellsStatsAt t s) (seen_at s t).data_file
   pub tables : AllByRecursion (HasStatistics t) (seen_at s t).table
 
 -- ---- what a version has besides

@@ -4,7 +4,6 @@ ghost use Rattle.std.specs.Option.{option_copied};
 ghost use Rattle.cat_rows.specs.Batches.{tables_of};
 ghost use Rattle.cat_rows.specs.declared.files.DataFileRow.{DataFileRow};
 ghost use Rattle.cat_rows.specs.declared.files.FileColumnStatsRow.{FileColumnStatsRow};
-ghost use Rattle.cat_texts.specs.Spelled.{IsStatsOf};
 ghost use Rattle.cat_view.specs.Groups.{rows_at};
 ghost use Rattle.cat_view.specs.Held.{held_in, AreCopies, IsHeld, IsCopyOf};
 ghost use Rattle.cat_view.specs.LiveFiles as live;
@@ -19,7 +18,7 @@ use cat_rows::{CatRows, DataFileRow, DeleteFileRow, FileColumnStatsRow};
 use cat_texts::{ReadTextNo, read_stats};
 use col_stats::ColStats;
 use file_disk::Held;
-use lake_types::{ColType, Column, NoMemory, Words};
+use lake_types::{Column, NoMemory, Words};
 use std::alloc::{AllocError, Global};
 use std::sync::Arc;
 
@@ -66,32 +65,39 @@ pub fn first_at<'a, R>(rows: &'a [R], places: &[usize]) -> Option<&'a R>
     None
 }
 
-/// The type of the column of a field id.
-fn type_with(columns: &[Column], field: u64) -> Option<ColType>
-    ensures { result ≡ spec.type_with columns.now field }
+/// The column of a field id.
+fn column_with(columns: &[Column], field: u64) -> Option<&Column>
+    ensures column { option_copied result ≡ spec.column_with columns.now field }
+    ensures field { IfSome (option_copied result) (λ c. c.field ≡ field) }
 {
     for column in columns {
         if u64::from(column.field) == field {
-            return Some(column.ty);
+            return Some(column);
         }
     }
     None
 }
 
-/// The statistics of a row that can be read.
+/// The statistics that a row tells in a column's type; without bounds where it tells none.
 fn stats_in(
     alloc: Global,
-    ty: ColType,
+    column: &Column,
     count: u64,
     row: &FileColumnStatsRow,
 ) -> Result<ColStats, NoMemory>
-    requires { spec.TellsStats ty count row.now }
-    ensures { IfOk result (IsStatsOf ty count row.now) }
+    requires { column.now.field ≡ row.now.column_id }
+    ensures { IfOk result (spec.IsTold column.now.ty count row.now) }
 {
-    match read_stats(alloc, ty, count, row) {
+    match read_stats(alloc, column.ty, count, row) {
         Ok(stats) => Ok(stats),
         Err(ReadTextNo::Memory) => Err(AllocError),
-        Err(ReadTextNo::BadText) => unreachable!(),
+        Err(ReadTextNo::BadText) => Ok(ColStats {
+            field: column.field,
+            rows: count,
+            nulls: row.null_count,
+            min: None,
+            max: None,
+        }),
     }
 }
 
@@ -104,22 +110,20 @@ fn add_stats(
     columns: &[Column],
     count: u64,
 ) -> Result<(), NoMemory>
-    requires { IfSome (option_copied row) (spec.CanBeRead columns.now count) }
     ensures { OnOk result ((rows : List FileColumnStatsRow) → spec.AreRead columns.now count rows stats.old →
         spec.AreRead columns.now count (rows ++ cons_option (option_copied row.entry) []) stats.new) }
 {
     let Some(row) = row else {
         return Ok(());
     };
-    let Some(ty) = type_with(columns, row.column_id) else {
+    let Some(column) = column_with(columns, row.column_id) else {
         return Ok(());
     };
-    let told = stats_in(alloc, ty, count, row)?;
+    let told = stats_in(alloc, column, count, row)?;
     stats.push(told)
 }
 
 /// The statistics that the rows at some places tell of these columns of a file with so many rows.
-#[tactic(auto, using(crate::proofs::PlaceLemmas::row_has))]
 fn stats_at(
     alloc: Global,
     rows: &[FileColumnStatsRow],
@@ -127,7 +131,6 @@ fn stats_at(
     columns: &[Column],
     count: u64,
 ) -> Result<StatsList, NoMemory>
-    requires { AllByRecursion (spec.CanBeRead columns.now count) (rows_at rows.now places.now) }
     ensures { IfOk result (spec.AreRead columns.now count (rows_at rows.now places.now)) }
 {
     let mut stats = StatsList::new(alloc);

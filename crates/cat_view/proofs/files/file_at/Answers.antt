@@ -1,11 +1,11 @@
 use Rattle.std.proofs.Common.{◌∙◌, sym, ap, subst}
 use Rattle.std.specs.Prelude.{IfSome}
-use Rattle.std.specs.List.{AllByRecursion, slice_get}
+use Rattle.std.specs.List.{slice_get}
 use Rattle.cat_rows.specs.Batches.{tables_of}
 use Rattle.cat_rows.specs.declared.files.DeleteFileRow.{DeleteFileRow}
 use Rattle.cat_view.specs.Held.{IsHeld, held_in}
 use Rattle.cat_view.specs.Owners.{delete_file_owner, stats_owner}
-use Rattle.cat_view.specs.Stats.{AreRead, CanBeRead}
+use Rattle.cat_view.specs.Stats.{AreRead}
 use Rattle.cat_view.proofs.FileLemmas.{live_is}
 use Rattle.cat_view.proofs.GroupLemmas.{as_many_groups, grouped}
 use Rattle.cat_view.proofs.files.file_at.Goals as goal
@@ -19,13 +19,6 @@ pub group_of-told-requires-clause-same : goal.group_of-told-requires-clause-same
 group_of-told-requires-clause-same g c =
     let p = c.args.places.now in
     as_many_groups (stats_owner p.snapshot) (tables_of c.args.rows.now).file_column_stats p.ids.items p.stats.items c.requires.places.stats_are _ _ c.as_slice-ids.ensures.value c.as_slice-2.ensures.value
-
-pub stats_at-requires : goal.stats_at-requires
-stats_at-requires g c =
-    let t = tables_of c.args.rows.now in
-    let p = c.args.places.now in
-    let told = grouped (stats_owner p.snapshot) t.file_column_stats c.args.row.now.data_file_id p.ids.items p.stats.items c.requires.known c.requires.places.stats_are _ _ _ _ c.file_column_stats.ensures.rows c.group_of-told.ensures c.as_slice-ids.ensures.value c.as_slice-2.ensures.value in
-    subst (AllByRecursion (CanBeRead c.args.columns.now c.args.row.now.record_count)) (sym told) c.requires.readable.stats
 
 pub live_file-requires-clause-delete : goal.live_file-requires-clause-delete
 live_file-requires-clause-delete g c =

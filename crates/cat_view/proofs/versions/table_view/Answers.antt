@@ -3,7 +3,7 @@ use Rattle.std.specs.List.{AllByRecursion, AllZip}
 use Rattle.cat_rows.specs.Batches.{tables_of}
 use Rattle.cat_texts.specs.Spelled.{IsColumnOf}
 use Rattle.cat_view.specs.Columns.{SpellsColumn, in_order}
-use Rattle.cat_view.specs.Groups.{rows_at, rows_of}
+use Rattle.cat_view.specs.Groups.{rows_at}
 use Rattle.cat_view.specs.Held.{held_in}
 use Rattle.cat_view.specs.Inlined.{AreInlined, SpellsCells}
 use Rattle.cat_view.specs.LiveFiles.{AreLive, CanBeLive}
@@ -43,12 +43,8 @@ files_at-requires-clause-readable g c =
     let id = c.args.head.id in
     let name = g.F.Held.name in
     let held = (held_in c.args.held.now).rows in
-    let cols = grouped (column_owner s) t.column id p.ids.items p.columns.items c.requires.known c.requires.places.columns_are _ _ _ _ c.column.ensures.rows c.group_of.ensures c.as_slice-ids.ensures.value c.as_slice.ensures.value in
     let own = grouped (data_file_owner s) t.data_file id p.ids.items p.data_files.items c.requires.known c.requires.places.data_files_are t.data_file _ _ _ refl c.group_of-data.ensures c.as_slice-ids.ensures.value c.as_slice-2.ensures.value in
-    let are = subst (λ rs. AllZip IsColumnOf (in_order rs) c.in_ok-columns.columns) cols c.in_ok-columns.ensures in
-    subst (AllByRecursion (CanBeLive name held s t c.as_slice-3.result.now)) (sym own)
-    (subst (λ cs. AllByRecursion (CanBeLive name held s t cs) (rows_of (data_file_owner s) id t.data_file)) (sym c.as_slice-3.ensures)
-    (can_live name held t s c.requires.readable id c.in_ok-columns.columns are))
+    subst (AllByRecursion (CanBeLive name held s t c.as_slice-3.result.now)) (sym own) (can_live name held t s c.requires.readable id c.as_slice-3.result.now)
 
 pub inlined_at-requires : goal.inlined_at-requires
 inlined_at-requires g c =
