@@ -2,7 +2,7 @@ ghost use Rattle.std.specs.Prelude.{◌≡◌, ◌≤◌, ◌↔◌, Some, lengt
 ghost use Rattle.std.specs.Prelude.{IfOk, IfSome, IfNone, OnSome, IsSome, IsErrOf};
 ghost use Rattle.lake_io.specs.Causes.{Rose};
 ghost use Rattle.file_disk.specs.Calls.{HasCause, AllHold};
-ghost use Rattle.file_disk.specs.Folder.{Changes, Same, StaysIfThere, Touches};
+ghost use Rattle.file_disk.specs.Folder.{Changes, MayBecomeAny, Same, StaysIfThere, Touches};
 ghost use Rattle.file_disk.specs.declared.fault.DiskNo.TheVariants as disk_no;
 ghost use Rattle.new_files.specs.Drawing.{Drew, IfTaken, Wrote, refusal};
 ghost use Rattle.new_files.specs.Writing.{AddsBytes, MayLeave, Writes};
@@ -89,6 +89,8 @@ pub fn write_new<D: FileDisk, N: Names>(
     ensures size { OnSome (D.files disk.old) (IfOk result (λ file. D.File.size file ≡ length bytes.now)) }
     ensures files { IfOk result (λ file.
         Changes (AddsBytes (D.File.name file) bytes.now) (D.files disk.old) (D.files disk.new)) }
+    ensures images { IfOk result (λ file.
+        Touches MayBecomeAny (D.File.name file) (D.images disk.old) (D.images disk.new)) }
     ensures durable { OnSome (D.files disk.old)
         (IfOk result (λ file. AllHold (D.File.name file) bytes.now (D.images disk.new))) }
 
