@@ -166,7 +166,6 @@ fn counters_of(rows: &CatRows, table: u64) -> (u64, u32)
 }
 
 /// A table as a snapshot sees it.
-
 fn table_view<F: Held>(
     alloc: Global,
     held: &HeldFiles<F>,
