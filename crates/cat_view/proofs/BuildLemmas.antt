@@ -105,12 +105,23 @@ columns_seen s id rows columns all =
     (sym (ordered-map (λ (r : ColumnRow). r.column_order) open_column (λ r. refl) (rows_of (column_owner s) id rows)) ∙ ap in_order (owned_seen column_validity s (λ (r : ColumnRow). r.table_id) id rows (λ r. refl)))
     (opened (in_order (rows_of (column_owner s) id rows)) columns all)
 
-pub spells : (s id : ℕ) (rows : List ColumnRow) → AllByRecursion SpellsColumn (visible_at column_validity s rows) → AllByRecursion SpellsColumn (rows_of (column_owner s) id rows)
-spells s id rows = owned_have column_validity s (λ (r : ColumnRow). r.table_id) SpellsColumn id rows
+-- what holds of rows without their ends, where ends don't matter
+kept_open : {R : Type 0} (strip : R → R) (P : R → Type 0) → ((r : R) → P (strip r) → P r) → (rows : List R) → AllByRecursion P (map strip rows) → AllByRecursion P rows
+kept_open strip P back [] all = tt
+kept_open strip P back (r ∷ rows) all = (back r all.0, kept_open strip P back rows all.1)
+
+-- what holds of all that is seen of one owner holds of the rows that are its own
+own_have : {R : Type 0} (v : Validity R) (s : ℕ) (owner : R → ℕ) (P : R → Type 0) (id : ℕ) (rows : List R) → ((r : R) → owner (v.with_end None r) ≡ owner r) → ((r : R) → P (v.with_end None r) → P r)
+    → AllByRecursion P (filter (λ r. owner r == id) (visible_at v s rows)) → AllByRecursion P (rows_of (by v s owner) id rows)
+own_have v s owner P id rows same back all =
+    kept_open (v.with_end None) P back (rows_of (by v s owner) id rows) (subst (AllByRecursion P) (sym (owned_seen v s owner id rows same)) all)
+
+pub spells : (s id : ℕ) (rows : List ColumnRow) → AllByRecursion SpellsColumn (filter (λ (r : ColumnRow). r.table_id == id) (visible_at column_validity s rows)) → AllByRecursion SpellsColumn (rows_of (column_owner s) id rows)
+spells s id rows = own_have column_validity s (λ (r : ColumnRow). r.table_id) SpellsColumn id rows (λ r. refl)
     (λ r h. record { column = h.column; spelled = record { field = h.spelled.field; name = h.spelled.name; ty = h.spelled.ty; initial = h.spelled.initial; default_value = h.spelled.default_value; nulls = h.spelled.nulls }; field = h.field })
 
-pub spells_cells : (s id : ℕ) (rows : List InlinedRow) → AllByRecursion SpellsCells (visible_at inlined_row_validity s rows) → AllByRecursion SpellsCells (rows_of (inlined_owner s) id rows)
-spells_cells s id rows = owned_have inlined_row_validity s (λ (r : InlinedRow). r.table_id) SpellsCells id rows (λ r h. record { cells = h.cells; spelled = h.spelled; few = h.few })
+pub spells_cells : (s id : ℕ) (rows : List InlinedRow) → AllByRecursion SpellsCells (filter (λ (r : InlinedRow). r.table_id == id) (visible_at inlined_row_validity s rows)) → AllByRecursion SpellsCells (rows_of (inlined_owner s) id rows)
+spells_cells s id rows = own_have inlined_row_validity s (λ (r : InlinedRow). r.table_id) SpellsCells id rows (λ r. refl) (λ r h. record { cells = h.cells; spelled = h.spelled; few = h.few })
 
 -- ---- data files
 

@@ -17,13 +17,13 @@ use Rattle.cat_rows.specs.declared.files.DeleteFileRow.{DeleteFileRow}
 use Rattle.cat_rows.specs.declared.inlined.InlinedRow.{InlinedRow}
 use Rattle.cat_rows.specs.declared.schemas.SchemaRow.{SchemaRow}
 use Rattle.cat_rows.specs.declared.schemas.TableRow.{TableRow}
-use Rattle.cat_view.specs.Building.{AreTableViews, HasCountersOf, IsTableView, head_of, heads_in, schemas_in}
+use Rattle.cat_view.specs.Building.{AreTableViews, IsReady, IsTableView, head_of, heads_in, schemas_in}
 use Rattle.cat_view.specs.Groups.{id_key, is_owner, rows_of}
 use Rattle.cat_view.specs.Held.{AreCopies}
 use Rattle.cat_view.specs.LiveFiles.{AreLive, delete_at}
 use Rattle.cat_view.specs.Named.{NamedFile}
 use Rattle.cat_view.specs.Owners.{data_file_owner, delete_file_owner, inlined_owner, owner_if}
-use Rattle.cat_view.specs.Reading.{HasHeld, HasStatistics, TellsFile, TellsTable, file_stats}
+use Rattle.cat_view.specs.Reading.{CanBeViewed, HasHeld, TellsFile, TellsTable, file_stats}
 use Rattle.cat_view.specs.Sight.{HasCounters, IsInlined, IsTableAt, delete_row, deletes_of, file_of, schema_of, stats_row}
 use Rattle.cat_view.specs.Stats.{AreRead}
 use Rattle.cat_view.specs.Views.{named_file, named_table}
@@ -31,7 +31,7 @@ use Rattle.cat_view.specs.declared.held.HeldFile.{HeldFile}
 use Rattle.cat_view.specs.declared.live.LiveFile.{LiveFile}
 use Rattle.cat_view.specs.declared.live.TableHead.{TableHead}
 use Rattle.cat_view.specs.declared.live.TableView.{TableView}
-use Rattle.cat_view.proofs.BuildLemmas.{columns_seen, owned_seen}
+use Rattle.cat_view.proofs.BuildLemmas.{columns_seen, owned_seen, spells, spells_cells}
 use Rattle.cat_view.proofs.InlinedLemmas.{zip-push}
 
 -- one more table
@@ -68,18 +68,22 @@ heads_rise s (r ∷ rows) up = go (is_visible table_validity s r) (heads_rise s 
     go true more = (above rows up.0, more)
     go false more = more
 
--- each has counters
-pub heads_counted : (s : ℕ) (t : Tables) (rows : List TableRow) → AllByRecursion (HasStatistics t) (visible_at table_validity s rows) → AllByRecursion (λ (h : TableHead). HasCountersOf t h.id) (heads_in s rows)
-heads_counted s t [] all = tt
-heads_counted s t (r ∷ rows) all = go (is_visible table_validity s r) all (λ more. heads_counted s t rows more)
+-- each can be read
+pub heads_ready : (s : ℕ) (t : Tables) (rows : List TableRow) → AllByRecursion (CanBeViewed t s) (visible_at table_validity s rows) → AllByRecursion (λ (h : TableHead). IsReady s t h.id) (heads_in s rows)
+heads_ready s t [] all = tt
+heads_ready s t (r ∷ rows) all = go (is_visible table_validity s r) all (λ more. heads_ready s t rows more)
   where
-    open_table : TableRow → TableRow
-    open_table q = record q { end_snapshot = None }
+    ready : CanBeViewed t s (record r { end_snapshot = None }) → IsReady s t r.table_id
+    ready h = record {
+      columns = spells s r.table_id t.column h.columns;
+      inlined = spells_cells s r.table_id t.inlined_row h.inlined;
+      counters = record { stats = h.stats; there = h.there; field = h.field };
+    }
 
-    go : (b : Bool) → AllByRecursion (HasStatistics t) (map (λ (q : TableRow). record q { end_snapshot = None }) (cond b (r ∷ filter (is_visible table_validity s) rows) (filter (is_visible table_validity s) rows)))
-        → (AllByRecursion (HasStatistics t) (visible_at table_validity s rows) → AllByRecursion (λ (h : TableHead). HasCountersOf t h.id) (heads_in s rows))
-        → AllByRecursion (λ (h : TableHead). HasCountersOf t h.id) (map head_of (cond b (r ∷ filter (is_visible table_validity s) rows) (filter (is_visible table_validity s) rows)))
-    go true h more = (record { stats = h.0.stats; there = h.0.there; field = h.0.field }, more h.1)
+    go : (b : Bool) → AllByRecursion (CanBeViewed t s) (map (λ (q : TableRow). record q { end_snapshot = None }) (cond b (r ∷ filter (is_visible table_validity s) rows) (filter (is_visible table_validity s) rows)))
+        → (AllByRecursion (CanBeViewed t s) (visible_at table_validity s rows) → AllByRecursion (λ (h : TableHead). IsReady s t h.id) (heads_in s rows))
+        → AllByRecursion (λ (h : TableHead). IsReady s t h.id) (map head_of (cond b (r ∷ filter (is_visible table_validity s) rows) (filter (is_visible table_validity s) rows)))
+    go true h more = (ready h.0, more h.1)
     go false h more = more h
 
 -- ---- files

@@ -1,7 +1,7 @@
 -- How a version is put together, table by table.
 use Rattle.std.specs.Prelude.{◌≡◌, ◌<◌, ◌^◌, ℕ, List, filter, map, Option, Some}
 use Rattle.std.specs.Arc.{arc_value}
-use Rattle.std.specs.List.{AllZip}
+use Rattle.std.specs.List.{AllByRecursion, AllZip}
 use Rattle.std.specs.declared.sync.Arc.{Arc}
 use Rattle.lake_types.specs.declared.kind.SchemaName.{SchemaName}
 use Rattle.cat_tables.specs.Table.{RisesByKey}
@@ -12,9 +12,9 @@ use Rattle.cat_rows.specs.declared.files.TableStatsRow.{TableStatsRow}
 use Rattle.cat_rows.specs.declared.schemas.SchemaRow.{SchemaRow}
 use Rattle.cat_rows.specs.declared.schemas.TableRow.{TableRow}
 use Rattle.cat_texts.specs.Spelled.{IsColumnOf}
-use Rattle.cat_view.specs.Columns.{in_order}
+use Rattle.cat_view.specs.Columns.{SpellsColumn, in_order}
 use Rattle.cat_view.specs.Groups.{IsGroup, id_key, rows_of}
-use Rattle.cat_view.specs.Inlined.{AreInlined}
+use Rattle.cat_view.specs.Inlined.{AreInlined, SpellsCells}
 use Rattle.cat_view.specs.LiveFiles.{AreLive}
 use Rattle.cat_view.specs.Owners.{column_owner, data_file_owner, inlined_owner}
 use Rattle.cat_view.specs.Sight.{schema_of, stats_row}
@@ -47,6 +47,12 @@ pub record HasCountersOf (t : Tables) (table : ℕ) : Type 0 where
   pub stats : TableStatsRow
   pub there : stats_row t table ≡ Some stats
   pub field : stats.next_field_id < 2 ^ 32
+
+-- a table's rows can be read at a snapshot, and there are statistics of it
+pub record IsReady (s : ℕ) (t : Tables) (table : ℕ) : Type 0 where
+  pub columns : AllByRecursion SpellsColumn (rows_of (column_owner s) table t.column)
+  pub inlined : AllByRecursion SpellsCells (rows_of (inlined_owner s) table t.inlined_row)
+  pub counters : HasCountersOf t table
 
 pub record AreCountersOf (t : Tables) (table next_row next_field : ℕ) : Type 0 where
   pub stats : TableStatsRow

@@ -9,6 +9,8 @@ use Rattle.cat_rows.specs.declared.files.DataFileRow.{DataFileRow}
 use Rattle.cat_rows.specs.declared.files.DeleteFileRow.{DeleteFileRow}
 use Rattle.cat_rows.specs.declared.files.FileColumnStatsRow.{FileColumnStatsRow}
 use Rattle.cat_rows.specs.declared.files.TableStatsRow.{TableStatsRow}
+use Rattle.cat_rows.specs.declared.inlined.InlinedRow.{InlinedRow}
+use Rattle.cat_rows.specs.declared.schemas.ColumnRow.{ColumnRow}
 use Rattle.cat_rows.specs.declared.schemas.TableRow.{TableRow}
 use Rattle.cat_view.specs.Columns.{SpellsColumn}
 use Rattle.cat_view.specs.Held.{AreCopies, IsHeld}
@@ -23,19 +25,20 @@ use Rattle.cat_view.specs.declared.version.Version.{Version}
 abbrev pub file_stats : Tables → ℕ → List FileColumnStatsRow
 file_stats t id = filter (λ (r : FileColumnStatsRow). r.data_file_id == id) t.file_column_stats
 
--- a table has statistics, whose next field id has 32 bits
-pub record HasStatistics (t : Tables) (r : TableRow) : Type 0 where
+-- What a snapshot sees of a table is spelled, columns and inlined rows, and the table has statistics, whose next field id has
+-- 32 bits.
+pub record CanBeViewed (t : Tables) (s : ℕ) (r : TableRow) : Type 0 where
+  pub columns : AllByRecursion SpellsColumn (filter (λ (c : ColumnRow). c.table_id == r.table_id) (seen_at s t).column)
+  pub inlined : AllByRecursion SpellsCells (filter (λ (q : InlinedRow). q.table_id == r.table_id) (seen_at s t).inlined_row)
   pub stats : TableStatsRow
   pub there : stats_row t r.table_id ≡ Some stats
   pub field : stats.next_field_id < 2 ^ 32
 
--- Of what the snapshot sees, columns and inlined cells are spelled, files are held, and tables have statistics.
+-- so of each table that it sees, and the files that it sees are held
 pub record CanBeSeen {F : Type 0} (name : F → List ℕ) (held : List (HeldFile F)) (t : Tables) (s : ℕ) : Type 0 where
-  pub columns : AllByRecursion SpellsColumn (seen_at s t).column
-  pub inlined : AllByRecursion SpellsCells (seen_at s t).inlined_row
+  pub tables : AllByRecursion (CanBeViewed t s) (seen_at s t).table
   pub data_files : AllByRecursion (λ (f : DataFileRow). IsHeld name held f.path) (seen_at s t).data_file
   pub delete_files : AllByRecursion (λ (d : DeleteFileRow). IsHeld name held d.path) (seen_at s t).delete_file
-  pub tables : AllByRecursion (HasStatistics t) (seen_at s t).table
 
 -- ---- what a version has besides
 

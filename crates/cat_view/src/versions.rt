@@ -178,7 +178,7 @@ fn table_view<F: Held>(
     requires places { spec.AreTablePlaces files.now.snapshot (tables_of rows.now) places.now }
     requires known { list_any (λ id. id == head.id) places.now.ids.items ≡ true }
     requires readable { CanBeSeen F.name (held_in held.now).rows (tables_of rows.now) files.now.snapshot }
-    requires counters { spec.HasCountersOf (tables_of rows.now) head.id }
+    requires ready { spec.IsReady files.now.snapshot (tables_of rows.now) head.id }
     ensures { IfOk result (spec.IsTableView F.name (held_in held.now).rows files.now.snapshot (tables_of
         rows.now) F.size F.part F.bytes head) }
 {
@@ -222,7 +222,7 @@ fn add_table<F: Held>(
     requires places { spec.AreTablePlaces files.now.snapshot (tables_of rows.now) places.now }
     requires known { list_any (λ id. id == head.now.id) places.now.ids.items ≡ true }
     requires readable { CanBeSeen F.name (held_in held.now).rows (tables_of rows.now) files.now.snapshot }
-    requires counters { spec.HasCountersOf (tables_of rows.now) head.now.id }
+    requires ready { spec.IsReady files.now.snapshot (tables_of rows.now) head.now.id }
     ensures { OnOk result ((heads : List TableHead) → spec.AreTableViews F.name (held_in held.now).rows
         files.now.snapshot (tables_of rows.now) F.size F.part F.bytes heads tables.old.items →
         spec.AreTableViews F.name (held_in held.now).rows files.now.snapshot (tables_of rows.now) F.size
@@ -248,7 +248,7 @@ fn tables_at<F: Held>(
     requires places { spec.AreTablePlaces files.now.snapshot (tables_of rows.now) places.now }
     requires known { AllByRecursion (λ h. list_any (λ id. id == h.id) places.now.ids.items ≡ true) heads.now }
     requires readable { CanBeSeen F.name (held_in held.now).rows (tables_of rows.now) files.now.snapshot }
-    requires counters { AllByRecursion (λ h. spec.HasCountersOf (tables_of rows.now) h.id) heads.now }
+    requires ready { AllByRecursion (λ h. spec.IsReady files.now.snapshot (tables_of rows.now) h.id) heads.now }
     ensures { IfOk result (λ tables. spec.AreTableViews F.name (held_in held.now).rows files.now.snapshot
         (tables_of rows.now) F.size F.part F.bytes heads.now tables.items) }
 {

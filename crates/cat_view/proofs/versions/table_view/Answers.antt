@@ -8,7 +8,7 @@ use Rattle.cat_view.specs.Held.{held_in}
 use Rattle.cat_view.specs.Inlined.{AreInlined, SpellsCells}
 use Rattle.cat_view.specs.LiveFiles.{AreLive, CanBeLive}
 use Rattle.cat_view.specs.Owners.{column_owner, data_file_owner, inlined_owner}
-use Rattle.cat_view.proofs.BuildLemmas.{can_live, spells, spells_cells}
+use Rattle.cat_view.proofs.BuildLemmas.{can_live}
 use Rattle.cat_view.proofs.GroupLemmas.{as_many_groups, grouped}
 use Rattle.cat_view.proofs.versions.table_view.Goals as goal
 
@@ -33,7 +33,7 @@ columns_at-requires g c =
     let p = c.args.places.now in
     let s = c.args.files.now.snapshot in
     let own = grouped (column_owner s) t.column c.args.head.id p.ids.items p.columns.items c.requires.known c.requires.places.columns_are _ _ _ _ c.column.ensures.rows c.group_of.ensures c.as_slice-ids.ensures.value c.as_slice.ensures.value in
-    subst (AllByRecursion SpellsColumn) (sym own) (spells s c.args.head.id t.column c.requires.readable.columns)
+    subst (AllByRecursion SpellsColumn) (sym own) c.requires.ready.columns
 
 pub files_at-requires-clause-readable : goal.files_at-requires-clause-readable
 files_at-requires-clause-readable g c =
@@ -52,7 +52,7 @@ inlined_at-requires g c =
     let p = c.args.places.now in
     let s = c.args.files.now.snapshot in
     let own = grouped (inlined_owner s) t.inlined_row c.args.head.id p.ids.items p.inlined.items c.requires.known c.requires.places.inlined_are _ _ _ _ c.inlined_row.ensures.rows c.group_of-2.ensures c.as_slice-ids.ensures.value c.as_slice-4.ensures.value in
-    subst (AllByRecursion SpellsCells) (sym own) (spells_cells s c.args.head.id t.inlined_row c.requires.readable.inlined)
+    subst (AllByRecursion SpellsCells) (sym own) c.requires.ready.inlined
 
 pub returns : goal.returns
 returns g c =

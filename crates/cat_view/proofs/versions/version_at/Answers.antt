@@ -2,12 +2,12 @@ use Rattle.std.proofs.Common.{◌≡◌, ◌∙◌, ◌==◌, true, map, sym, ap
 use Rattle.std.specs.List.{AllByRecursion, list_any}
 use Rattle.cat_tables.specs.Table.{RisesByKey}
 use Rattle.cat_rows.specs.Batches.{tables_of}
-use Rattle.cat_view.specs.Building.{AreTableViews, HasCountersOf, heads_in, schemas_in}
+use Rattle.cat_view.specs.Building.{AreTableViews, IsReady, heads_in, schemas_in}
 use Rattle.cat_view.specs.Groups.{id_key}
 use Rattle.cat_view.specs.Held.{held_in}
 use Rattle.cat_view.specs.declared.live.TableHead.{TableHead}
 use Rattle.cat_view.proofs.FileLemmas.{each_known}
-use Rattle.cat_view.proofs.ViewLemmas.{all_copies, all_counters, all_stats, heads_counted, heads_rise, schemas_seen, tables_are}
+use Rattle.cat_view.proofs.ViewLemmas.{all_copies, all_counters, all_stats, heads_ready, heads_rise, schemas_seen, tables_are}
 use Rattle.cat_view.proofs.versions.version_at.Goals as goal
 
 pub table_places-requires : goal.table_places-requires
@@ -22,11 +22,12 @@ tables_at-requires-clause-known g c =
     subst (AllByRecursion (λ (h : TableHead). list_any (λ id. id == h.id) c.in_ok-places.places.ids.items ≡ true)) (sym c.as_slice-2.ensures.value)
     (subst (λ (is : List ℕ). AllByRecursion (λ (h : TableHead). list_any (λ id. id == h.id) is ≡ true) heads) (sym ids) (each_known (λ (h : TableHead). h.id) heads))
 
-pub tables_at-requires-clause-counters : goal.tables_at-requires-clause-counters
-tables_at-requires-clause-counters g c =
+pub tables_at-requires-clause-ready : goal.tables_at-requires-clause-ready
+tables_at-requires-clause-ready g c =
     let t = tables_of c.args.rows.now in
-    subst (AllByRecursion (λ (h : TableHead). HasCountersOf t h.id)) (sym (c.as_slice-2.ensures.value ∙ c.in_ok-heads.ensures ∙ ap (heads_in c.args.snapshot) c.table.ensures.rows))
-    (heads_counted c.args.snapshot t t.table c.requires.tables)
+    subst (λ (s : ℕ). AllByRecursion (λ (h : TableHead). IsReady s t h.id) c.as_slice-2.result.now) (sym c.in_ok-files.ensures.snapshot)
+    (subst (AllByRecursion (λ (h : TableHead). IsReady c.args.snapshot t h.id)) (sym (c.as_slice-2.ensures.value ∙ c.in_ok-heads.ensures ∙ ap (heads_in c.args.snapshot) c.table.ensures.rows))
+    (heads_ready c.args.snapshot t t.table c.requires.tables))
 
 pub returns-clause-version : goal.returns-clause-version
 returns-clause-version g c =
