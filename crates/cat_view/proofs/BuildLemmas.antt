@@ -118,10 +118,10 @@ own_have v s owner P id rows same back all =
 
 pub spells : (s id : ℕ) (rows : List ColumnRow) → AllByRecursion SpellsColumn (filter (λ (r : ColumnRow). r.table_id == id) (visible_at column_validity s rows)) → AllByRecursion SpellsColumn (rows_of (column_owner s) id rows)
 spells s id rows = own_have column_validity s (λ (r : ColumnRow). r.table_id) SpellsColumn id rows (λ r. refl)
-    (λ r h. record { column = h.column; spelled = record { field = h.spelled.field; name = h.spelled.name; ty = h.spelled.ty; initial = h.spelled.initial; default_value = h.spelled.default_value; nulls = h.spelled.nulls }; field = h.field })
+    (λ r h none. h (λ c is small. none c (record { field = is.field; name = is.name; ty = is.ty; initial = is.initial; default_value = is.default_value; nulls = is.nulls }) small))
 
 pub spells_cells : (s id : ℕ) (rows : List InlinedRow) → AllByRecursion SpellsCells (filter (λ (r : InlinedRow). r.table_id == id) (visible_at inlined_row_validity s rows)) → AllByRecursion SpellsCells (rows_of (inlined_owner s) id rows)
-spells_cells s id rows = own_have inlined_row_validity s (λ (r : InlinedRow). r.table_id) SpellsCells id rows (λ r. refl) (λ r h. record { cells = h.cells; spelled = h.spelled; few = h.few })
+spells_cells s id rows = own_have inlined_row_validity s (λ (r : InlinedRow). r.table_id) SpellsCells id rows (λ r. refl) (λ r h. h)
 
 -- ---- data files
 

@@ -1,17 +1,15 @@
 -- A table's columns in their order.
-use Rattle.std.specs.Prelude.{◌≡◌, ◌<◌, ◌^◌, ℕ, List, map}
+use Rattle.std.specs.Prelude.{◌≡◌, ℕ, List, map}
 use Rattle.std.specs.List.{AllZip}
 use Rattle.lake_types.specs.declared.value.Column.{Column}
 use Rattle.cat_rows.specs.declared.schemas.ColumnRow.{ColumnRow}
-use Rattle.cat_texts.specs.Spelled.{IsColumnOf}
+use Rattle.cat_texts.specs.Spelled.{IsColumnOf, SpellsNone}
 use Rattle.cat_view.specs.Named.{ordered}
 use Rattle.cat_view.specs.declared.columns.PlacedColumn.{PlacedColumn}
 
--- a row spells a column, whose field id has 32 bits
-pub record SpellsColumn (r : ColumnRow) : Type 0 where
-  pub column : Column
-  pub spelled : IsColumnOf r column
-  pub field : column.field < 2 ^ 32
+-- a row spells a column, whose field id has 32 bits: it isn't one that spells none
+abbrev pub SpellsColumn : ColumnRow → Type 0
+SpellsColumn r = SpellsNone r → ⊥
 
 abbrev pub in_order : List ColumnRow → List ColumnRow
 in_order rows = ordered (λ (r : ColumnRow). r.column_order) rows
