@@ -1,0 +1,4 @@
+pub mod NewLemmas
+pub mod FileLemmas
+pub mod EarlierLemmas
+pub mod RestLemmas

@@ -1,0 +1,27 @@
+//! What holds of a content that stands for a lake. Each function's contract is a law, and its body is empty.
+
+ghost use Rattle.cat_stands.specs.Laws.{EarlierStatesStay, EarlierVersionsStay, KeptVersionsStay};
+ghost use Rattle.cat_stands.specs.Laws.{EmptyStands, MoreFilesStand, NewLakeStands, WhatRestsIsSeenAlike};
+
+/// The empty content stands for the new lake, and so does that of snapshot 0, over any files.
+pub fn new_lake_stands()
+    ensures empty { EmptyStands }
+    ensures new { NewLakeStands }
+{}
+
+/// More files on the disk leave what a content stands for.
+pub fn more_files_stand()
+    ensures { MoreFilesStand }
+{}
+
+/// A batch that is past a snapshot leaves the version and the plain state that this one sees.
+pub fn earlier_versions_stay()
+    ensures versions { EarlierVersionsStay }
+    ensures states { EarlierStatesStay }
+    ensures kept { KeptVersionsStay }
+{}
+
+/// Rows that neither begin nor end at the snapshots past one are seen alike at the last of these.
+pub fn what_rests_is_seen_alike()
+    ensures { WhatRestsIsSeenAlike }
+{}
