@@ -1,5 +1,5 @@
 -- A batch that is past a snapshot leaves what this one sees, and so its version and its state.
-use Rattle.std.proofs.Common.{List, [], ◌∷◌, sym, subst}
+use Rattle.std.proofs.Common.{[], ◌∷◌, sym, subst}
 use Rattle.cat_rows.specs.Seen.{Seen}
 use Rattle.cat_rows.proofs.EarlierLemmas.{seen_before}
 use Rattle.cat_view.specs.Sight.{IsVersionOf}

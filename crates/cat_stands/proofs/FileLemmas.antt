@@ -18,8 +18,8 @@ use Rattle.cat_rows.specs.declared.schemas.TableRow.{TableRow}
 use Rattle.cat_rows.specs.Validities.{data_file_validity, delete_file_validity}
 use Rattle.cat_tables.specs.Validity.{Validity, is_visible, visible_at}
 use Rattle.cat_view.specs.Files.{Extends, Filed, Files, sheet_at}
-use Rattle.cat_view.specs.Named.{NamedDeletes, NamedFile, NamedTable, NamedVersion, deleted, live_rows, ordered, rows_in, state_of, table_of}
-use Rattle.cat_view.specs.Sight.{IsTableAt, IsVersionOf, data_rows, delete_row, deletes_of, file_of}
+use Rattle.cat_view.specs.Named.{NamedDeletes, NamedFile, NamedTable, deleted, live_rows, ordered, rows_in, state_of, table_of}
+use Rattle.cat_view.specs.Sight.{IsTableAt, data_rows, delete_row, deletes_of, file_of}
 use Rattle.cat_stands.specs.FileFacts.{IsDataFile, IsDeleteFile, IsThere}
 use Rattle.cat_stands.specs.Laws.{MoreFilesStand}
 use Rattle.cat_stands.specs.Stands.{IsPlain, uncounted}
@@ -111,7 +111,7 @@ module _ (files more : Files) (extends : Extends files more) where
     still_plain : (state : State) → IsPlain files seen state → IsPlain more seen state
     still_plain state p =
         let states : state_of more 0 p.version ≡ state_of files 0 p.version =
-            ap (λ tables. record (state_of files 0 p.version) { tables = tables }) (same_tables p.version.tables (all_files seen.table p.version.tables p.sees.tables)) in
+        ap (λ tables. record (state_of files 0 p.version) { tables = tables }) (same_tables p.version.tables (all_files seen.table p.version.tables p.sees.tables)) in
         record { version = p.version; sees = p.sees; same = p.same ∙ ap uncounted (sym states) }
 
   -- ---- a content
@@ -126,27 +126,33 @@ module _ (files more : Files) (extends : Extends files more) where
 
   data_there : (t : Tables) (fs : List DataFileRow) → AllByRecursion (IsDataFile t files) fs → AllByRecursion (IsDataFile t more) fs
   data_there t [] h = tt
-  data_there t (f ∷ fs) h = (record {
-    sheet = h.0.sheet;
-    there = still_there f.path f.file_size_bytes h.0.sheet h.0.there;
-    rows = h.0.rows;
-    weight = h.0.weight;
-    laid = h.0.laid;
-    has_ids = h.0.has_ids;
-    counts = h.0.counts;
-    fields = h.0.fields;
-  }, data_there t fs h.1)
+  data_there t (f ∷ fs) h = (
+    record {
+      sheet = h.0.sheet;
+      there = still_there f.path f.file_size_bytes h.0.sheet h.0.there;
+      rows = h.0.rows;
+      weight = h.0.weight;
+      laid = h.0.laid;
+      has_ids = h.0.has_ids;
+      counts = h.0.counts;
+      fields = h.0.fields;
+    },
+    data_there t fs h.1,
+  )
 
   deletes_there : (t : Tables) (ds : List DeleteFileRow) → AllByRecursion (IsDeleteFile t files) ds → AllByRecursion (IsDeleteFile t more) ds
   deletes_there t [] h = tt
-  deletes_there t (d ∷ ds) h = (record {
-    sheet = h.0.sheet;
-    there = still_there d.path d.file_size_bytes h.0.sheet h.0.there;
-    data_file = h.0.data_file;
-    of_file = h.0.of_file;
-    places = h.0.places;
-    lists = h.0.lists;
-  }, deletes_there t ds h.1)
+  deletes_there t (d ∷ ds) h = (
+    record {
+      sheet = h.0.sheet;
+      there = still_there d.path d.file_size_bytes h.0.sheet h.0.there;
+      data_file = h.0.data_file;
+      of_file = h.0.of_file;
+      places = h.0.places;
+      lists = h.0.lists;
+    },
+    deletes_there t ds h.1,
+  )
 
   module _ (t : Tables) (named : AllByRecursion HasSameData t.data_file) (deletes : AllByRecursion HasSameDelete t.delete_file) where
     all_plain : (rows : List SnapshotRow) (versions : List Version) → AllZip (λ (r : SnapshotRow) (v : Version). IsPlain files (seen_at r.snapshot_id t) v.state) rows versions
@@ -155,11 +161,12 @@ module _ (files more : Files) (extends : Extends files more) where
     all_plain [] (v ∷ vs) h = absurd h
     all_plain (r ∷ rs) [] h = absurd h
     all_plain (r ∷ rs) (v ∷ vs) h = (
-        still_plain (seen_at r.snapshot_id t)
-        (all-seen data_file_validity HasSameData r.snapshot_id t.data_file (λ f e. e) named)
-        (all-seen delete_file_validity HasSameDelete r.snapshot_id t.delete_file (λ d e. e) deletes)
-        v.state h.0,
-        all_plain rs vs h.1)
+      still_plain (seen_at r.snapshot_id t)
+          (all-seen data_file_validity HasSameData r.snapshot_id t.data_file (λ f e. e) named)
+          (all-seen delete_file_validity HasSameDelete r.snapshot_id t.delete_file (λ d e. e) deletes)
+          v.state h.0,
+      all_plain rs vs h.1,
+    )
 
 pub more_files-stand : MoreFilesStand
 more_files-stand t files more first versions extends h = record {

@@ -2,3 +2,4 @@ pub mod NewLemmas
 pub mod FileLemmas
 pub mod EarlierLemmas
 pub mod RestLemmas
+pub mod SeeLemmas

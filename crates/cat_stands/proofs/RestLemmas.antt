@@ -1,10 +1,10 @@
 -- Rows that neither begin nor end at some snapshots are seen alike by those before and after them.
-use Rattle.std.proofs.Common.{◌≡◌, ◌<◌, ◌+◌, ℕ, zero, suc, Bool, List, filter, None, refl, ◌∙◌, subst, arith, ap}
+use Rattle.std.proofs.Common.{◌≡◌, ◌+◌, ℕ, zero, suc, Bool, List, filter, None, ◌∙◌, arith, ap}
 use Rattle.cat_tables.specs.Validity.{IsValidity, Validity, visible_at}
 use Rattle.cat_tables.proofs.FrameLemmas.{visible_at-rests}
 use Rattle.cat_rows.specs.Keys.{column_key, data_file_key, delete_file_key, inlined_row_key, schema_key, table_key}
 use Rattle.cat_rows.specs.Validities.{column_laws, column_validity, data_file_laws, data_file_validity, delete_file_laws, delete_file_validity, inlined_row_laws, inlined_row_validity, schema_laws, schema_validity, table_laws, table_validity}
-use Rattle.cat_stands.specs.Laws.{RestFor, SeesRested, WhatRestsIsSeenAlike}
+use Rattle.cat_stands.specs.Laws.{RestFor, WhatRestsIsSeenAlike}
 
 module _ {R : Type 0} (key : R → List ℕ) (v : Validity R) (laws : IsValidity v key) where
   sees-rested : (chosen : R → Bool) (b d : ℕ) (rows : List R) → ((r : R) → chosen (v.with_end None r) ≡ chosen r) → RestFor v chosen b d rows

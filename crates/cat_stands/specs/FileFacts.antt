@@ -1,5 +1,5 @@
 -- What the catalogue says of a file, and when the file is so.
-use Rattle.std.specs.Prelude.{◌≡◌, ◌<◌, ◌==◌, ℕ, true, List, [], ◌∷◌, filter, map, Option, Some, None, IfSome}
+use Rattle.std.specs.Prelude.{◌≡◌, ◌<◌, ◌==◌, ℕ, true, List, [], ◌∷◌, filter, Some, None, IfSome}
 use Rattle.std.specs.List.{AllByRecursion, AllZip}
 use Rattle.lake_types.specs.declared.sheet.Sheet.{Sheet}
 use Rattle.lake_types.specs.declared.sheet.SheetColumn.{SheetColumn}
@@ -10,7 +10,7 @@ use Rattle.inline_rows.specs.Laws.{Spells}
 use Rattle.col_stats.specs.Stats.{IsCount}
 use Rattle.field_map.specs.Laid.{first_fault}
 use Rattle.sheet_rows.specs.Sheets.{is_data, sheet_weight}
-use Rattle.sheet_rows.specs.Live.{deleted_in, laid_rows, StatedDeletes}
+use Rattle.sheet_rows.specs.Live.{deleted_in, laid_rows}
 use Rattle.cat_tables.specs.Table.{row_of}
 use Rattle.cat_tables.specs.Validity.{is_visible}
 use Rattle.cat_rows.specs.Keys.{data_file_key}

@@ -9,7 +9,12 @@ use Rattle.cat_rows.specs.Validities.{column_validity, data_file_validity, delet
 use Rattle.cat_rows.specs.declared.batch.Batch.{Batch}
 use Rattle.cat_rows.specs.declared.history.SnapshotRow.{SnapshotRow}
 use Rattle.cat_view.specs.Files.{Extends, Files}
+use Rattle.cat_rules.specs.Kept.{IsKept}
+use Rattle.cat_rules.specs.Sane.{IsFirstBadRow}
+use Rattle.cat_view.specs.Held.{IsHeld}
 use Rattle.cat_view.specs.Named.{NamedVersion}
+use Rattle.cat_view.specs.Reading.{CanBeSeen}
+use Rattle.cat_view.specs.declared.held.HeldFile.{HeldFile}
 use Rattle.cat_view.specs.Sight.{IsVersionAt}
 use Rattle.lake_model.specs.Core.{Version, first_version}
 use Rattle.lake_model.specs.State.{State}
@@ -82,3 +87,11 @@ pub record WhatRestsIsSeenAlike : Type 0 where
   pub data_files : SeesRested data_file_validity
   pub delete_files : SeesRested delete_file_validity
   pub inlined_rows : SeesRested inlined_row_validity
+
+-- ---- what a sane content shows
+
+-- where rows break none of the twelve rules, and the files of these names are held, the version of a kept snapshot can be read
+abbrev pub SaneRowsCanBeSeen : {F : Type 0} → (F → List ℕ) → Type 0
+SaneRowsCanBeSeen {F} name =
+    (t : Tables) (s : ℕ) (held : List (HeldFile F)) → IsFirstBadRow t None → IsKept t s → AllByRecursion (λ f. IsHeld name held f.path) t.data_file
+    → AllByRecursion (λ d. IsHeld name held d.path) t.delete_file → CanBeSeen name held t s
