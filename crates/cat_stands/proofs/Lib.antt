@@ -3,3 +3,4 @@ pub mod FileLemmas
 pub mod EarlierLemmas
 pub mod RestLemmas
 pub mod SeeLemmas
+pub mod OneLemmas

@@ -1,5 +1,5 @@
 -- What holds of a content that stands for a lake.
-use Rattle.std.specs.Prelude.{◌≡◌, ◌<◌, ◌+◌, ℕ, ℤ, Bool, List, [], ◌∷◌, filter, None}
+use Rattle.std.specs.Prelude.{◌≡◌, ◌<◌, ◌+◌, ℕ, ℤ, Bool, List, [], ◌∷◌, filter, map, None}
 use Rattle.std.specs.List.{AllByRecursion, AllZip}
 use Rattle.cat_tables.specs.Validity.{Rests, Validity, visible_at}
 use Rattle.cat_rows.specs.Batches.{applied}
@@ -19,7 +19,8 @@ use Rattle.cat_view.specs.Sight.{IsVersionAt}
 use Rattle.lake_model.specs.Core.{Version, first_version}
 use Rattle.lake_model.specs.State.{State}
 use Rattle.cat_stands.specs.New.{new_tables}
-use Rattle.cat_stands.specs.Stands.{IsPlain, IsSound, StandsFor}
+use Rattle.cat_rules.specs.Lookups.{last}
+use Rattle.cat_stands.specs.Stands.{IsPlain, IsSound, StandsFor, uncounted}
 
 -- ---- the new lake
 
@@ -38,6 +39,24 @@ abbrev pub MoreFilesStand : Type 0
 MoreFilesStand =
     (t : Tables) (files more : Files) (first : ℕ) (versions : List Version) → Extends files more → IsSound t files first versions
     → IsSound t more first versions
+
+-- ---- one lake
+
+abbrev pub uncounted_version : Version → Version
+uncounted_version v = record v { state = uncounted v.state }
+
+-- One first number, and versions that are the same up to the counters of their states; the newest have one state with its
+-- counters.
+pub record AreOneLake (first second : ℕ) (versions others : List Version) : Type 0 where
+  pub first_is : first ≡ second
+  pub versions_are : map uncounted_version versions ≡ map uncounted_version others
+  pub newest : last (map (λ (v : Version). v.state) versions) ≡ last (map (λ (v : Version). v.state) others)
+
+-- a content, with files, stands for one lake at most
+abbrev pub StandsForOne : Type 0
+StandsForOne =
+    (t : Tables) (files : Files) (first second : ℕ) (versions others : List Version) → IsSound t files first versions
+    → IsSound t files second others → AreOneLake first second versions others
 
 -- ---- batches
 

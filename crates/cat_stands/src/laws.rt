@@ -1,7 +1,8 @@
 //! What holds of a content that stands for a lake. Each function's contract is a law, and its body is empty.
 
 ghost use Rattle.cat_stands.specs.Laws.{EarlierStatesStay, EarlierVersionsStay, KeptVersionsStay};
-ghost use Rattle.cat_stands.specs.Laws.{EmptyStands, MoreFilesStand, NewLakeStands, SaneRowsCanBeSeen, WhatRestsIsSeenAlike};
+ghost use Rattle.cat_stands.specs.Laws.{EmptyStands, MoreFilesStand, NewLakeStands, SaneRowsCanBeSeen};
+ghost use Rattle.cat_stands.specs.Laws.{StandsForOne, WhatRestsIsSeenAlike};
 
 use file_disk::Held;
 
@@ -14,6 +15,11 @@ pub fn new_lake_stands()
 /// More files on the disk leave what a content stands for.
 pub fn more_files_stand()
     ensures { MoreFilesStand }
+{}
+
+/// A content stands for one lake at most, up to counters below the newest version, which no answer there uses.
+pub fn one_lake()
+    ensures { StandsForOne }
 {}
 
 /// A batch that is past a snapshot leaves the version and the plain state that this one sees.
