@@ -247,18 +247,18 @@ pub fn files_at<F: Held>(
     rows: &CatRows,
     places: &FilePlaces,
     columns: &[Column],
-    data: &[usize],
+    chosen: &[usize],
 ) -> Result<Vec<Arc<LiveFile<F>>>, NoMemory>
     requires places { live.AreFilePlaces (tables_of rows.now) places.now }
     requires readable { AllByRecursion (live.CanBeLive F.name (held_in held.now).rows places.now.snapshot (tables_of
-        rows.now) columns.now) (rows_at (tables_of rows.now).data_file data.now) }
+        rows.now) columns.now) (rows_at (tables_of rows.now).data_file chosen.now) }
     ensures { IfOk result (λ files. live.AreLive F.name (held_in held.now).rows places.now.snapshot (tables_of
-        rows.now) columns.now F.size F.part F.bytes (rows_at (tables_of rows.now).data_file data.now)
+        rows.now) columns.now F.size F.part F.bytes (rows_at (tables_of rows.now).data_file chosen.now)
         files.items) }
 {
     let mut files = Vec::new(alloc);
-    for at in 0..data.len() {
-        let row = row_at(rows.data_file(), data, at);
+    for at in 0..chosen.len() {
+        let row = row_at(rows.data_file(), chosen, at);
         add_file(alloc, &mut files, held, rows, places, columns, row)?;
     }
     Ok(files)

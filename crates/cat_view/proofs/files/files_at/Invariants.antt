@@ -10,4 +10,4 @@ abbrev pub invariant-loop-at : goal.invariant-loop-at
 invariant-loop-at g l =
     let h = g.F.Held in
     let t = tables_of l.rows in
-    AreLive h.name (held_in l.held).rows l.places.snapshot t l.columns h.size h.part h.bytes (rows_at t.data_file (take l.at l.data)) l.files.items
+    AreLive h.name (held_in l.held).rows l.places.snapshot t l.columns h.size h.part h.bytes (rows_at t.data_file (take l.at l.chosen)) l.files.items
