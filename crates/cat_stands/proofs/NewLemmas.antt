@@ -1,6 +1,7 @@
 -- The content of snapshot 0: it breaks no rule, and it stands for the new lake.
 use Rattle.std.specs.Prelude.{codes}
-use Rattle.std.proofs.Common.{◌≡◌, ◌<◌, ◌⊎◌, inl, ⊎_elim, ℤ, [], ◌∷◌, Some, None, refl, sym, subst, true≢false, Less, Equal, arith}
+use Rattle.std.proofs.Common.{◌≡◌, ◌<◌, ◌⊎◌, inl, ⊎_elim, ℤ, [], ◌∷◌, None, refl, sym, subst, true≢false, Less, Equal, arith}
+use Rattle.std.proofs.lemmas.Option.{same_Some}
 use Rattle.cat_rows.specs.declared.batch.Key.{Key}
 use Rattle.cat_rows.specs.declared.history.SnapshotRow.{SnapshotRow}
 use Rattle.cat_rules.specs.ColumnRule.{AreColumnsBad}
@@ -31,9 +32,6 @@ no e = e
 
 less≢equal : Equal ≡ Less → ⊥
 less≢equal e = cc
-
-some_in : {A : Type 0} {a b : A} → Some a ≡ Some b → a ≡ b
-some_in e = cc
 
 module _ (time : ℤ) where
   layout : Holds (IsLayoutBad (new_tables time))
@@ -86,7 +84,7 @@ module _ (time : ℤ) where
       (none (none (λ h. true≢false (sym h.0)) no) (none no (none no (none no (none no (none no (none no no)))))))
 
   ids : Holds (IsIdBad (new_tables time))
-  ids k h = past k (subst (λ (n : SnapshotRow). IsPastCounters (new_tables time) n k) (sym (some_in h.1)) h.2)
+  ids k h = past k (subst (λ (n : SnapshotRow). IsPastCounters (new_tables time) n k) (sym (same_Some _ _ h.1)) h.2)
 
   sane : IsFirstBadRow (new_tables time) None
   sane = (layout, (history, (intervals, (schema_names, (tables, (columns, (data_files, (delete_files, (column_stats, (inlined, (stats, (ids, tt))))))))))))

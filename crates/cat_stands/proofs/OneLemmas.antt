@@ -1,5 +1,6 @@
 -- A content stands for one lake at most.
 use Rattle.std.proofs.Common.{◌≡◌, ℕ, zero, suc, List, [], ◌∷◌, ◌++◌, length, map, Some, refl, sym, ap, ap₂, ◌∙◌, subst}
+use Rattle.std.proofs.lemmas.Option.{same_Some}
 use Rattle.std.specs.List.{AllByRecursion, AllZip, flat_map, range_with_len}
 use Rattle.lake_types.specs.Cells.{laid_cells}
 use Rattle.lake_types.specs.Kinds.{SaysWith}
@@ -33,9 +34,6 @@ head_in e = cc
 
 tail_in : {X : Type 0} {x y : X} {xs ys : List X} → x ∷ xs ≡ y ∷ ys → xs ≡ ys
 tail_in e = cc
-
-some_in : {X : Type 0} {x y : X} → Some x ≡ Some y → x ≡ y
-some_in e = cc
 
 none_left : {X : Type 0} {x : X} {xs : List X} → [] ≡ x ∷ xs → ⊥
 none_left e = cc
@@ -158,7 +156,7 @@ one_lists (v ∷ vs) (w ∷ ws) e h k =
 one_counted : (t : Tables) (x y : Table) → uncounted_table x ≡ uncounted_table y → HasCounters t x → HasCounters t y → x ≡ y
 one_counted t x y u h k =
     let id : x.id ≡ y.id = ap (λ (z : Table). z.id) u in
-    let row : h.row ≡ k.row = some_in (sym h.there ∙ (ap (stats_row t) id ∙ k.there)) in
+    let row : h.row ≡ k.row = same_Some _ _ (sym h.there ∙ (ap (stats_row t) id ∙ k.there)) in
     let next_row : x.next_row ≡ y.next_row = h.next_row ∙ (ap (λ (r : TableStatsRow). r.next_row_id) row ∙ sym k.next_row) in
     let next_field : x.next_field ≡ y.next_field = h.next_field ∙ (ap (λ (r : TableStatsRow). r.next_field_id) row ∙ sym k.next_field) in
     λ i. record (u i) { next_row = next_row i; next_field = next_field i }
@@ -189,7 +187,7 @@ first_number (r ∷ rows) first second (suc m) (suc n) before newest some e f = 
 
 module _ (t : Tables) (files : Files) (first second : ℕ) (vs ws : List Version) (h : IsSound t files first vs) (k : IsSound t files second ws) where
   newest_same : h.newest ≡ k.newest
-  newest_same = some_in (sym (last-of h.before h.newest) ∙ (ap last (sym h.snapshots ∙ k.snapshots) ∙ last-of k.before k.newest))
+  newest_same = same_Some _ _ (sym (last-of h.before h.newest) ∙ (ap last (sym h.snapshots ∙ k.snapshots) ∙ last-of k.before k.newest))
 
   abbrev pub IsState : SnapshotRow → Version → Type 0
   IsState r v = IsPlain files (seen_at r.snapshot_id t) v.state

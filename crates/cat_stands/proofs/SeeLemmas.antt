@@ -1,9 +1,10 @@
 -- From the twelve rules: of each table that a kept snapshot sees, the rows are spelled, and there are statistics.
-use Rattle.std.proofs.Common.{◌≡◌, ◌<◌, ◌≤◌, ◌^◌, ◌==◌, ◌&&◌, ◌||◌, ◌⊎◌, ⊎_elim, inl, inr, ℕ, Bool, true, false, not, cond, List, [], ◌∷◌, filter, Option, Some, None, is_some, length, refl, sym, ap, subst, nat_lt, arith, ◌∙◌}
+use Rattle.std.proofs.Common.{◌≡◌, ◌<◌, ◌≤◌, ◌^◌, ◌==◌, ◌||◌, ◌⊎◌, ⊎_elim, inl, inr, ℕ, Bool, true, false, not, cond, List, [], ◌∷◌, filter, Option, Some, None, is_some, length, refl, sym, ap, subst, nat_lt, arith, ◌∙◌}
 use Rattle.std.specs.Prelude.{sum_by}
 use Rattle.std.specs.List.{AllByRecursion}
-use Rattle.std.proofs.lemmas.Bool.{cases_lt, eqb-true, lt-ltb}
+use Rattle.std.proofs.lemmas.Bool.{and_from, cases_lt, eqb-true, lt-ltb, or_left, or_right}
 use Rattle.std.proofs.lemmas.List.Sums.{sum_by-cons}
+use Rattle.std.proofs.lemmas.Option.{same_Some}
 use Rattle.lake_types.specs.Texts.{HasText}
 use Rattle.lake_types.specs.Weights.{cell_weight, weight}
 use Rattle.lake_types.specs.declared.value.ColType.{ColType}
@@ -81,11 +82,8 @@ module _ {R : Type 0} (key : R → List ℕ) where
   found_in k [] r e = absurd (cc e)
   found_in k (q ∷ rows) r e = go (has_key key k q) e (found_in k rows r)
     where
-      same : Some q ≡ Some r → q ≡ r
-      same e = cc e
-
       go : (b : Bool) → cond b (Some q) (row_of key k rows) ≡ Some r → (row_of key k rows ≡ Some r → IsIn r rows) → IsIn r (q ∷ rows)
-      go true e more = inl (same e)
+      go true e more = inl (same_Some q r e)
       go false e more = inr (more e)
 
 has_row : {R : Type 0} (o : Option R) → HasRow o (λ _. Unit {0}) → is_some o ≡ true
@@ -95,18 +93,6 @@ has_row (Some r) h = refl
 -- where no row is told as bad, none is
 none_bad : {R : Type 0} (name : R → Key) (Bad : R → Type 0) (rows : List R) → ((k : Key) → Names name Bad rows k → ⊥) → (r : R) → IsIn r rows → Bad r → ⊥
 none_bad name Bad rows none r h bad = none (name r) (SomeOf_like (λ q. q ≡ r) (λ q. Bad q × (name q ≡ name r)) (λ q e. (subst Bad (sym e) bad, ap name e)) rows h)
-
-either_left : (a b : Bool) → a ≡ true → (a || b) ≡ true
-either_left true b h = refl
-either_left false b h = absurd (cc h)
-
-either_right : (a b : Bool) → b ≡ true → (a || b) ≡ true
-either_right true b h = refl
-either_right false b h = h
-
-both_true : (a b : Bool) → a ≡ true → b ≡ true → (a && b) ≡ true
-both_true true b h k = k
-both_true false b h k = absurd (cc h)
 
 -- ---- columns
 
@@ -192,11 +178,11 @@ module _ (t : Tables) (s : ℕ) (kept : IsKept t s) where
       large : (st : TableStatsRow) → stats_row t r.table_id ≡ Some st → nat_lt last_field st.next_field_id ≡ true → ⊥
       large st is past =
           none_bad of_table_stats (λ x. are_stats_large t x ≡ true) t.table_stats (λ k n. fine k (inr n)) st (found_in table_stats_key (r.table_id ∷ []) t.table_stats st is)
-          (both_true (holds t (key.Table st.table_id)) (has_large_counter st)
+          (and_from (holds t (key.Table st.table_id)) (has_large_counter st)
           (subst (λ k. is_some (row_of table_key k t.table) ≡ true) (sym (key-row_of table_stats_key (r.table_id ∷ []) t.table_stats st is)) table_there)
-          (either_right (nat_lt last_id st.record_count) (nat_lt last_id st.next_row_id || (nat_lt last_field st.next_field_id || nat_lt last_id st.file_size_bytes))
-          (either_right (nat_lt last_id st.next_row_id) (nat_lt last_field st.next_field_id || nat_lt last_id st.file_size_bytes)
-          (either_left (nat_lt last_field st.next_field_id) (nat_lt last_id st.file_size_bytes) past))))
+          (or_right (nat_lt last_id st.record_count) (nat_lt last_id st.next_row_id || (nat_lt last_field st.next_field_id || nat_lt last_id st.file_size_bytes))
+          (or_right (nat_lt last_id st.next_row_id) (nat_lt last_field st.next_field_id || nat_lt last_id st.file_size_bytes)
+          (or_left (nat_lt last_field st.next_field_id) (nat_lt last_id st.file_size_bytes) past))))
 
       small : (st : TableStatsRow) → stats_row t r.table_id ≡ Some st → st.next_field_id < 2 ^ 32
       small st is = ⊎_elim (λ (past : last_field < st.next_field_id). absurd (large st is (lt-ltb last_field st.next_field_id past))) (λ (le : st.next_field_id ≤ last_field). omega (arith, le)) (cases_lt last_field st.next_field_id)
