@@ -1,0 +1,4 @@
+pub mod ReadLemmas
+pub mod LeftLemmas
+pub mod FreshLemmas
+pub mod FileLemmas

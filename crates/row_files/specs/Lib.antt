@@ -1,0 +1,4 @@
+pub mod Folders
+pub mod Reading
+pub mod Fresh
+pub mod Staging
