@@ -1,0 +1,4 @@
+pub mod KeepLemmas
+pub mod PlanLemmas
+pub mod SeenLemmas
+pub mod TurnLemmas

@@ -1,0 +1,45 @@
+-- What is planned of a statement depends on schemas and tables, and not on rows.
+use Rattle.std.proofs.Common.{◌≡◌, ℕ, List, [], ◌∷◌, map, refl, sym, ap, ◌∙◌, Bool, true, false}
+use Rattle.std.specs.Prelude.{◌&&◌, find, Option, Some, None, option_map}
+use Rattle.std.specs.List.{list_any}
+use Rattle.lake_types.specs.declared.stmt.TableName.{TableName}
+use Rattle.lake_model.specs.Apply.{Draft, Work, is_ref}
+use Rattle.lake_model.specs.Clashes.{same_name}
+use Rattle.lake_model.specs.Plans.{Plan, has_tables, in_schema, of_draft, on_table, schema_named, table_named}
+use Rattle.lake_model.specs.declared.change.Ref.{Ref}
+use Rattle.txn_buf.specs.Drafts.{bare, bare_draft}
+
+any-bare : (schema : Ref) (ds : List Draft) → list_any (λ d. is_ref d.schema schema) (map bare_draft ds) ≡ list_any (λ d. is_ref d.schema schema) ds
+any-bare schema [] = refl
+any-bare schema (d ∷ ds) = rw (any-bare schema ds) refl
+
+pub has_tables-bare : (w : Work) (schema : Ref) → has_tables (bare w) schema ≡ has_tables w schema
+has_tables-bare w schema = any-bare schema w.tables
+
+abbrev is_named : Ref → List ℕ → Draft → Bool
+is_named schema name d = is_ref d.schema schema && same_name d.name name
+
+find-bare : (schema : Ref) (name : List ℕ) (ds : List Draft)
+    → find (is_named schema name) (map bare_draft ds) ≡ option_map bare_draft (find (is_named schema name) ds)
+find-bare schema name [] = refl
+find-bare schema name (d ∷ ds) = go (is_named schema name d) refl (find-bare schema name ds)
+  where
+    go : (b : Bool) → is_named schema name d ≡ b → find (is_named schema name) (map bare_draft ds) ≡ option_map bare_draft (find (is_named schema name) ds)
+        → find (is_named schema name) (map bare_draft (d ∷ ds)) ≡ option_map bare_draft (find (is_named schema name) (d ∷ ds))
+    go true e more = rw e refl
+    go false e more = rw e more
+
+pub table-bare : (w : Work) (schema : Ref) (name : List ℕ) → table_named (bare w) schema name ≡ option_map bare_draft (table_named w schema name)
+table-bare w schema name = find-bare schema name w.tables
+
+pub on_table-bare : (w : Work) (table : TableName) (plan : Draft → Plan) → ((d : Draft) → plan (bare_draft d) ≡ plan d) → on_table (bare w) table plan ≡ on_table w table plan
+on_table-bare w table plan same = go (schema_named w table.schema)
+  where
+    found : (o : Option Draft) → of_draft table plan (option_map bare_draft o) ≡ of_draft table plan o
+    found None = refl
+    found (Some d) = same d
+
+    go : (o : Option Ref) → in_schema table.schema (λ schema. of_draft table plan (table_named (bare w) schema table.table)) o
+        ≡ in_schema table.schema (λ schema. of_draft table plan (table_named w schema table.table)) o
+    go None = refl
+    go (Some schema) = ap (of_draft table plan) (table-bare w schema table.table) ∙ found (table_named w schema table.table)

@@ -1,0 +1,4 @@
+pub mod Base
+pub mod Drafts
+pub mod Keeping
+pub mod Turns

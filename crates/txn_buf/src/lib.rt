@@ -1,0 +1,14 @@
+//! What a transaction adds to the version that it sees: each statement is refused, or adds its change to the
+//! transaction's own list.
+#![tactic(auto)]
+
+mod buffer;
+mod create_schema;
+mod find;
+mod no;
+mod seen;
+mod tally;
+
+pub use buffer::TxnBuf;
+pub use no::TxnNo;
+pub use tally::Tally;
