@@ -1,6 +1,6 @@
 -- What a statement is answered, and what is kept afterwards.
-use Rattle.std.proofs.Common.{◌≡◌, ◌≢◌, ◌≤◌, ◌<◌, ℕ, ◌+◌, List, [], ◌∷◌, ◌++◌, refl, sym, ap, subst, ◌∙◌, Bool, true, false, arith}
-use Rattle.std.specs.Prelude.{◌||◌, nat_le, Option, Some, None, Result, Ok, Err, OnOk, OnErr}
+use Rattle.std.proofs.Common.{◌≡◌, ◌≢◌, ◌≤◌, ◌<◌, ℕ, List, [], ◌∷◌, ◌++◌, refl, sym, ap, subst, ◌∙◌, true, false, arith}
+use Rattle.std.specs.Prelude.{nat_le, Some, None, Result, Ok, Err, IfErr, OnOk, OnErr}
 use Rattle.std.specs.List.{list_any}
 use Rattle.std.proofs.lemmas.List.Folds.{list_any-append}
 use Rattle.lake_types.specs.declared.limits.TheConstants.{MAX_TXN_WEIGHT}
@@ -18,10 +18,11 @@ use Rattle.cat_view.specs.Named.{NamedVersion}
 use Rattle.cat_view.specs.Views.{named_view}
 use Rattle.txn_buf.specs.Base.{IsBase}
 use Rattle.txn_buf.specs.Drafts.{bare, begun_in, work_of}
-use Rattle.txn_buf.specs.Keeping.{IsKept, IsReady, IsSeen, Keeps, tally_of, txn_of, view_of}
-use Rattle.txn_buf.specs.Turns.{IsDone, IsRefused, Leaves, StandsFor, answer_of, planned}
+use Rattle.txn_buf.specs.Keeping.{IsReady, IsSeen, Keeps, tally_of, txn_of, view_of}
+use Rattle.txn_buf.specs.Turns.{IsDone, IsRefused, StandsFor, answer_of}
 use Rattle.txn_buf.specs.declared.buffer.TxnBuf.{TxnBuf}
 use Rattle.txn_buf.specs.declared.no.TxnNo.{TxnNo}
+use Rattle.txn_buf.specs.declared.no.TxnNo.TheVariants.{Memory}
 use Rattle.txn_buf.specs.declared.seen.Seen.{Seen}
 use Rattle.txn_buf.specs.declared.tally.Tally.{Tally}
 use Rattle.txn_buf.proofs.TurnLemmas.{begun-is, seen-more, weight-more}
@@ -187,3 +188,12 @@ module _ {F : Type 0} (name : F → List ℕ) (old mid : TxnBuf F) (seen : Seen)
       go : (q : Result (Unit {0}) TxnNo) → OnOk q (p ≡ Append c a) → OnOk q (after ≡ mid.txn.own ++ c ∷ []) → OnOk q (IsDone v (txn_of old) x after a)
       go (Ok u) plan added = done v old.txn seen x ready alone alike c a after (λ next. is next ∙ plan) (added ∙ ap (λ (t : Txn). t.own ++ c ∷ []) same_txn) small
       go (Err why) plan added = tt
+
+pub refuses : {F : Type 0} (name : F → List ℕ) (old : TxnBuf F) (seen : Seen) (r : Result (Unit {0}) TxnNo) → IsReady (named_view name (view_of old)) (txn_of old) seen
+    → (x : Stmt) (p : Plan) → compacts x ≡ false → PlansAlike x → IsPlan seen x p → IfErr r (λ why. why ≢ Memory → p ≡ Refuse (answer_of why))
+    → IfErr r (λ why. why ≢ Memory → IsRefused (named_view name (view_of old)) (txn_of old) x why)
+refuses {F} name old seen r ready x p alone alike is told = go r told
+  where
+    go : (q : Result (Unit {0}) TxnNo) → IfErr q (λ why. why ≢ Memory → p ≡ Refuse (answer_of why)) → IfErr q (λ why. why ≢ Memory → IsRefused (named_view name (view_of old)) (txn_of old) x why)
+    go (Ok u) told = tt
+    go (Err why) told = λ other. refused (named_view name (view_of old)) old.txn seen x ready alone alike why (λ next. is next ∙ told other)

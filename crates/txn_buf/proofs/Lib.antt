@@ -1,3 +1,4 @@
+pub mod ColumnLemmas
 pub mod KeepLemmas
 pub mod PlanLemmas
 pub mod SeenLemmas

@@ -1,11 +1,14 @@
 -- What is planned of a statement depends on schemas and tables, and not on rows.
-use Rattle.std.proofs.Common.{◌≡◌, ℕ, List, [], ◌∷◌, map, refl, sym, ap, ◌∙◌, Bool, true, false}
-use Rattle.std.specs.Prelude.{◌&&◌, find, Option, Some, None, option_map}
+use Rattle.std.proofs.Common.{◌≡◌, ℕ, List, [], ◌∷◌, map, refl, ap, ◌∙◌, Bool, true, false}
+use Rattle.std.specs.Prelude.{◌&&◌, find, is_none, Option, Some, None, option_map}
 use Rattle.std.specs.List.{list_any}
+use Rattle.lake_types.specs.declared.stmt.ColumnDef.{ColumnDef}
 use Rattle.lake_types.specs.declared.stmt.TableName.{TableName}
 use Rattle.lake_model.specs.Apply.{Draft, Work, is_ref}
 use Rattle.lake_model.specs.Clashes.{same_name}
-use Rattle.lake_model.specs.Plans.{Plan, has_tables, in_schema, of_draft, on_table, schema_named, table_named}
+use Rattle.lake_model.specs.Plans.{Plan, Append, create_in, create_table, drop_schema, drop_table, has_tables, in_schema, of_draft, on_table, refused_if, schema_named, table_named, unless}
+use Rattle.lake_model.specs.declared.answer.Answer.TheVariants as answer
+use Rattle.lake_model.specs.declared.change.Change.TheVariants as change
 use Rattle.lake_model.specs.declared.change.Ref.{Ref}
 use Rattle.txn_buf.specs.Drafts.{bare, bare_draft}
 
@@ -43,3 +46,25 @@ on_table-bare w table plan same = go (schema_named w table.schema)
         ≡ in_schema table.schema (λ schema. of_draft table plan (table_named w schema table.table)) o
     go None = refl
     go (Some schema) = ap (of_draft table plan) (table-bare w schema table.table) ∙ found (table_named w schema table.table)
+
+pub drop_table-alike : (w : Work) (table : TableName) → drop_table (bare w) table ≡ drop_table w table
+drop_table-alike w table = on_table-bare w table (λ d. Append (change.DropTable d.at) answer.Done) (λ d. refl)
+
+pub drop_schema-alike : (w : Work) (name : List ℕ) → drop_schema (bare w) name ≡ drop_schema w name
+drop_schema-alike w name = go (schema_named w name)
+  where
+    go : (o : Option Ref) → in_schema name (λ schema. unless (refused_if (has_tables (bare w) schema) (answer.NotEmpty name)) (Append (change.DropSchema schema) answer.Done)) o
+        ≡ in_schema name (λ schema. unless (refused_if (has_tables w schema) (answer.NotEmpty name)) (Append (change.DropSchema schema) answer.Done)) o
+    go None = refl
+    go (Some schema) = rw (has_tables-bare w schema) refl
+
+none-bare : (o : Option Draft) → is_none (option_map bare_draft o) ≡ is_none o
+none-bare None = refl
+none-bare (Some d) = refl
+
+pub create_table-alike : (w : Work) (table : TableName) (defs : List ColumnDef) → create_table (bare w) table defs ≡ create_table w table defs
+create_table-alike w table defs = go (schema_named w table.schema)
+  where
+    go : (o : Option Ref) → in_schema table.schema (create_in (bare w) table defs) o ≡ in_schema table.schema (create_in w table defs) o
+    go None = refl
+    go (Some schema) = rw (table-bare w schema table.table, none-bare (table_named w schema table.table)) refl

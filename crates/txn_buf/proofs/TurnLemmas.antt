@@ -1,5 +1,5 @@
 -- What one more change makes of a transaction.
-use Rattle.std.proofs.Common.{◌≡◌, ℕ, ◌+◌, List, [], ◌∷◌, ◌++◌, map, filter, refl, sym, ap, ◌∙◌, Bool, true, false, fold, append_assoc, append-nil, arith}
+use Rattle.std.proofs.Common.{◌≡◌, ◌+◌, List, [], ◌∷◌, ◌++◌, map, filter, refl, sym, ap, ◌∙◌, Bool, true, false, fold, append_assoc, append-nil, arith}
 use Rattle.std.specs.Prelude.{not}
 use Rattle.std.proofs.lemmas.List.Sums.{fold-append}
 use Rattle.lake_model.specs.Apply.{Draft, Work, altered, at_table, begun, created, changed, drafted, is_ref, promoted, renamed, with_column, with_default, with_rows, with_updates, without_column, worked}

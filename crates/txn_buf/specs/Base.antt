@@ -1,5 +1,5 @@
 -- Which plain states a version is, but for the rows of its tables.
-use Rattle.std.specs.Prelude.{◌≡◌, List, [], map}
+use Rattle.std.specs.Prelude.{◌≡◌, [], map}
 use Rattle.lake_model.specs.State.{State, Table}
 use Rattle.cat_view.specs.Named.{NamedTable, NamedVersion}
 

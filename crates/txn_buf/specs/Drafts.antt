@@ -1,6 +1,10 @@
 -- What a transaction sees of schemas and tables, without the rows of the tables.
-use Rattle.std.specs.Prelude.{ℕ, List, [], map}
+use Rattle.std.specs.Prelude.{ℕ, ◌+◌, List, [], length, map}
+use Rattle.lake_types.specs.declared.stmt.ColumnDef.{ColumnDef}
 use Rattle.lake_model.specs.Apply.{Draft, SchemaDraft, Work, drafted, drafted_schema}
+use Rattle.lake_model.specs.Plans.{columns_from}
+use Rattle.lake_model.specs.declared.change.Ref.{Ref}
+use Rattle.lake_model.specs.declared.change.Ref.TheVariants as ref
 use Rattle.cat_view.specs.Named.{NamedTable, NamedVersion}
 use Rattle.txn_buf.specs.Base.{head_of}
 use Rattle.txn_buf.specs.declared.seen.Seen.{Seen}
@@ -56,4 +60,14 @@ work_of s = record {
   created = [];
   created_schemas = s.created_schemas;
   created_tables = s.created_tables;
+}
+
+-- a new table, the one at this place among those that were created
+abbrev pub created_table : ℕ → Ref → List ℕ → List ColumnDef → SeenTable
+created_table place schema name defs = record {
+  at = ref.New place;
+  schema = schema;
+  name = name;
+  columns = columns_from 1 defs;
+  next_field = length defs + 1;
 }

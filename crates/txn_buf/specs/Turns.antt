@@ -1,12 +1,19 @@
 -- What a statement makes of a transaction.
-use Rattle.std.specs.Prelude.{◌≡◌, ℕ, Bool, true, false, List, [], ◌∷◌, ◌++◌}
+use Rattle.std.specs.Prelude.{◌≡◌, ℕ, Bool, true, false, List, [], ◌∷◌, ◌++◌, length, is_none, nat_lt, not, Option, option_and_then, option_map, unwrap_or}
+use Rattle.lake_types.specs.declared.limits.TheConstants.{MAX_COLUMNS}
+use Rattle.lake_types.specs.declared.stmt.ColumnDef.{ColumnDef}
 use Rattle.lake_types.specs.declared.stmt.Stmt.{Stmt}
-use Rattle.lake_model.specs.Plans.{Plan, Append, Leave, Refuse}
+use Rattle.lake_types.specs.declared.stmt.TableName.{TableName}
+use Rattle.lake_model.specs.Apply.{Work}
+use Rattle.lake_model.specs.Plans.{Plan, Append, Leave, Refuse, columns_from, new_columns_fault, or_else, refused_if, schema_named, table_named}
 use Rattle.lake_model.specs.State.{State}
 use Rattle.lake_model.specs.Step.{plan_of}
 use Rattle.lake_model.specs.declared.answer.Answer.{Answer}
 use Rattle.lake_model.specs.declared.answer.Answer.TheVariants as answer
 use Rattle.lake_model.specs.declared.change.Change.{Change}
+use Rattle.lake_model.specs.declared.change.Change.TheVariants as change
+use Rattle.lake_model.specs.declared.change.Ref.{Ref}
+use Rattle.lake_model.specs.declared.change.Ref.TheVariants as ref
 use Rattle.lake_model.specs.declared.change.Txn.{Txn}
 use Rattle.cat_view.specs.Named.{NamedVersion}
 use Rattle.cat_view.specs.Views.{named_view}
@@ -68,3 +75,26 @@ Refuses name old x why = IsRefused (named_view name (view_of old)) (txn_of old) 
 -- all but the own list
 abbrev pub IsSameTxn : {F : Type 0} → TxnBuf F → TxnBuf F → Type 0
 IsSameTxn old new = (view_of new ≡ view_of old) × (txn_of new ≡ record (txn_of old) { own = (txn_of new).own })
+
+-- ---- the changes that statements add, where what they name is there
+
+abbrev pub ref_or_none : Option Ref → Ref
+ref_or_none at = unwrap_or at (ref.New 0)
+
+abbrev pub schema_drop : Work → List ℕ → Change
+schema_drop w name = change.DropSchema (ref_or_none (schema_named w name))
+
+abbrev pub table_ref : Work → TableName → Option Ref
+table_ref w table = option_and_then (λ schema. option_map (λ d. d.at) (table_named w schema table.table)) (schema_named w table.schema)
+
+abbrev pub table_drop : Work → TableName → Change
+table_drop w table = change.DropTable (ref_or_none (table_ref w table))
+
+abbrev pub table_creation : Work → TableName → List ColumnDef → Change
+table_creation w table defs = change.CreateTable (ref_or_none (schema_named w table.schema)) table.table (columns_from 1 defs)
+
+-- what the creation of a table is refused for, in a schema that is there
+abbrev pub creation_fault_in : Work → Ref → List ℕ → List ColumnDef → Option Answer
+creation_fault_in w schema name defs =
+    or_else (refused_if (not (is_none (table_named w schema name))) (answer.NameUsed name))
+    (or_else (refused_if (nat_lt MAX_COLUMNS (length defs)) answer.ManyColumns) (new_columns_fault [] defs))

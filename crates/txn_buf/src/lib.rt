@@ -3,7 +3,12 @@
 #![tactic(auto)]
 
 mod buffer;
+mod columns;
 mod create_schema;
+mod create_table;
+mod drop_schema;
+mod drop_table;
+mod edits;
 mod find;
 mod no;
 mod seen;

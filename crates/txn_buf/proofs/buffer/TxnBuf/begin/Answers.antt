@@ -1,4 +1,4 @@
-use Rattle.std.proofs.Common.{rules, ◌≡◌, ◌∙◌, false, None}
+use Rattle.std.proofs.Common.{rules, ◌≡◌, false, None}
 use Rattle.cat_view.specs.Views.{named_view}
 use Rattle.txn_buf.specs.Drafts.{begun_in, work_of}
 use Rattle.txn_buf.proofs.KeepLemmas.{ready_begun}
