@@ -2,3 +2,4 @@ pub mod ReadLemmas
 pub mod LeftLemmas
 pub mod FreshLemmas
 pub mod FileLemmas
+pub mod GrowthLemmas

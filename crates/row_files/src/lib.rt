@@ -3,6 +3,7 @@
 
 mod fault;
 mod fresh;
+pub mod laws;
 mod reading;
 
 pub use fault::ReadNo;
