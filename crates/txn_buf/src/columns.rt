@@ -78,7 +78,8 @@ fn is_default_null(def: &ColumnDef) -> bool
 /// What a column of a new table is refused for, behind others.
 fn column_fault(alloc: Global, before: &[ColumnDef], def: &ColumnDef) -> Result<(), TxnNo>
     ensures ok { OnOk result (plan.new_column_fault before.now def.now ≡ None) }
-    ensures refused { IfErr result (λ why. why ≢ Memory → plan.new_column_fault before.now def.now ≡ Some (answer_of why)) }
+    ensures refused { IfErr result (λ why. why ≢ Memory → plan.new_column_fault before.now def.now ≡ Some (answer_of
+        why)) }
 {
     if is_used(before, def.name.as_str()) {
         return Err(TxnNo::NameUsed {

@@ -24,10 +24,13 @@ fn create_schema_in(
     own: &mut ChangeList,
     name: &Words,
 ) -> Result<(), TxnNo>
-    ensures planned { OnOk result (plan.create_schema (work_of seen.old) name.now ≡ plan.Append (change.CreateSchema name.now) answer.Done) }
+    ensures planned { OnOk result (plan.create_schema (work_of seen.old) name.now ≡ plan.Append (change.CreateSchema
+        name.now) answer.Done) }
     ensures own { OnOk result (own.new ≡ own.old ++ change.CreateSchema name.now ∷ []) }
-    ensures seen { OnOk result (work_of seen.new ≡ bare (changed (work_of seen.old) (change.CreateSchema name.now))) }
-    ensures refused { IfErr result (λ why. why ≢ Memory → plan.create_schema (work_of seen.old) name.now ≡ plan.Refuse (answer_of why)) }
+    ensures seen { OnOk result (work_of seen.new ≡ bare (changed (work_of seen.old) (change.CreateSchema
+        name.now))) }
+    ensures refused { IfErr result (λ why. why ≢ Memory → plan.create_schema (work_of seen.old) name.now ≡ plan.Refuse
+        (answer_of why)) }
     ensures same_own { OnErr result (own.new ≡ own.old) }
     ensures same_seen { OnErr result (work_of seen.new ≡ work_of seen.old) }
 {
@@ -61,7 +64,8 @@ impl<F: Held> TxnBuf<F> {
         requires stands { StandsFor F.name self.old }
         ensures stands { StandsFor F.name self.new }
         ensures done { OnOk result (Does F.name self.old (stmt.CreateSchema name.now) self.new answer.Done) }
-        ensures refused { IfErr result (λ why. why ≢ Memory → Refuses F.name self.old (stmt.CreateSchema name.now) why) }
+        ensures refused { IfErr result (λ why. why ≢ Memory → Refuses F.name self.old (stmt.CreateSchema name.now)
+            why) }
         ensures same { OnErr result ((txn_of self.new).own ≡ (txn_of self.old).own) }
         ensures rest { IsSameTxn self.old self.new }
     {

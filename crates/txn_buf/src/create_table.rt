@@ -11,11 +11,10 @@ ghost use Rattle.txn_buf.specs.Turns.{Does, IsSameTxn, Refuses, StandsFor, answe
 ghost use Rattle.txn_buf.specs.declared.no.TxnNo.TheVariants.{Memory};
 
 use crate::buffer::TxnBuf;
-use crate::no::TxnNo;
-use crate::seen::Seen;
-use file_disk::Held;
 use crate::columns::{columns_fault, new_columns};
-use crate::seen::SeenTable;
+use crate::no::TxnNo;
+use crate::seen::{Seen, SeenTable};
+use file_disk::Held;
 use lake_model::{Change, ChangeList, Ref};
 use lake_types::limits::MAX_COLUMNS;
 use lake_types::{ColumnDef, Copied, NoMemory, TableName, Words};
@@ -31,7 +30,8 @@ fn creation_fault(
 ) -> Result<(), TxnNo>
     ensures ok { OnOk result (creation_fault_in (work_of seen.now) schema name.now columns.now ≡ None) }
     ensures few { OnOk result (length columns.now ≤ MAX_COLUMNS) }
-    ensures refused { IfErr result (λ why. why ≢ Memory → creation_fault_in (work_of seen.now) schema name.now columns.now ≡ Some (answer_of why)) }
+    ensures refused { IfErr result (λ why. why ≢ Memory → creation_fault_in (work_of seen.now) schema name.now
+        columns.now ≡ Some (answer_of why)) }
 {
     if seen.table(schema, name.as_str()).is_some() {
         return Err(TxnNo::NameUsed {
@@ -74,8 +74,10 @@ fn add_table(
     columns: &[ColumnDef],
 ) -> Result<(), NoMemory>
     requires { length columns.now ≤ MAX_COLUMNS }
-    ensures own { OnOk result (own.new ≡ own.old ++ change.CreateTable schema name.now (plan.columns_from 1 columns.now) ∷ []) }
-    ensures seen { OnOk result (work_of seen.new ≡ bare (with_table (work_of seen.old) schema name.now (plan.columns_from 1 columns.now))) }
+    ensures own { OnOk result (own.new ≡ own.old ++ change.CreateTable schema name.now (plan.columns_from 1
+        columns.now) ∷ []) }
+    ensures seen { OnOk result (work_of seen.new ≡ bare (with_table (work_of seen.old) schema name.now
+        (plan.columns_from 1 columns.now))) }
     ensures same_own { OnErr result (own.new ≡ own.old) }
     ensures same_seen { OnErr result (work_of seen.new ≡ work_of seen.old) }
 {
@@ -105,10 +107,13 @@ fn create_table_in(
     table: &TableName,
     columns: &[ColumnDef],
 ) -> Result<(), TxnNo>
-    ensures planned { OnOk result (plan.create_table (work_of seen.old) table.now columns.now ≡ plan.Append (table_creation (work_of seen.old) table.now columns.now) answer.Done) }
+    ensures planned { OnOk result (plan.create_table (work_of seen.old) table.now columns.now ≡ plan.Append
+        (table_creation (work_of seen.old) table.now columns.now) answer.Done) }
     ensures own { OnOk result (own.new ≡ own.old ++ table_creation (work_of seen.old) table.now columns.now ∷ []) }
-    ensures seen { OnOk result (work_of seen.new ≡ bare (changed (work_of seen.old) (table_creation (work_of seen.old) table.now columns.now))) }
-    ensures refused { IfErr result (λ why. why ≢ Memory → plan.create_table (work_of seen.old) table.now columns.now ≡ plan.Refuse (answer_of why)) }
+    ensures seen { OnOk result (work_of seen.new ≡ bare (changed (work_of seen.old) (table_creation (work_of
+        seen.old) table.now columns.now))) }
+    ensures refused { IfErr result (λ why. why ≢ Memory → plan.create_table (work_of seen.old) table.now columns.now ≡
+        plan.Refuse (answer_of why)) }
     ensures same_own { OnErr result (own.new ≡ own.old) }
     ensures same_seen { OnErr result (work_of seen.new ≡ work_of seen.old) }
 {
@@ -142,8 +147,10 @@ impl<F: Held> TxnBuf<F> {
     ) -> Result<(), TxnNo>
         requires stands { StandsFor F.name self.old }
         ensures stands { StandsFor F.name self.new }
-        ensures done { OnOk result (Does F.name self.old (stmt.CreateTable table.now columns.now) self.new answer.Done) }
-        ensures refused { IfErr result (λ why. why ≢ Memory → Refuses F.name self.old (stmt.CreateTable table.now columns.now) why) }
+        ensures done { OnOk result (Does F.name self.old (stmt.CreateTable table.now columns.now) self.new
+            answer.Done) }
+        ensures refused { IfErr result (λ why. why ≢ Memory → Refuses F.name self.old (stmt.CreateTable table.now
+            columns.now) why) }
         ensures same { OnErr result ((txn_of self.new).own ≡ (txn_of self.old).own) }
         ensures rest { IsSameTxn self.old self.new }
     {

@@ -23,10 +23,13 @@ fn drop_schema_in(
     own: &mut ChangeList,
     name: &Words,
 ) -> Result<(), TxnNo>
-    ensures planned { OnOk result (plan.drop_schema (work_of seen.old) name.now ≡ plan.Append (schema_drop (work_of seen.old) name.now) answer.Done) }
+    ensures planned { OnOk result (plan.drop_schema (work_of seen.old) name.now ≡ plan.Append (schema_drop (work_of
+        seen.old) name.now) answer.Done) }
     ensures own { OnOk result (own.new ≡ own.old ++ schema_drop (work_of seen.old) name.now ∷ []) }
-    ensures seen { OnOk result (work_of seen.new ≡ bare (changed (work_of seen.old) (schema_drop (work_of seen.old) name.now))) }
-    ensures refused { IfErr result (λ why. why ≢ Memory → plan.drop_schema (work_of seen.old) name.now ≡ plan.Refuse (answer_of why)) }
+    ensures seen { OnOk result (work_of seen.new ≡ bare (changed (work_of seen.old) (schema_drop (work_of seen.old)
+        name.now))) }
+    ensures refused { IfErr result (λ why. why ≢ Memory → plan.drop_schema (work_of seen.old) name.now ≡ plan.Refuse
+        (answer_of why)) }
     ensures same_own { OnErr result (own.new ≡ own.old) }
     ensures same_seen { OnErr result (work_of seen.new ≡ work_of seen.old) }
 {

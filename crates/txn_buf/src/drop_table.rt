@@ -19,7 +19,8 @@ use std::alloc::Global;
 /// The reference of the table of a name.
 fn named_ref(alloc: Global, seen: &Seen, table: &TableName) -> Result<Ref, TxnNo>
     ensures found { IfOk result (λ at. table_ref (work_of seen.now) table.now ≡ Some at) }
-    ensures refused { IfErr result (λ why. why ≢ Memory → (p : Draft → plan.Plan) → plan.on_table (work_of seen.now) table.now p ≡ plan.Refuse (answer_of why)) }
+    ensures refused { IfErr result (λ why. why ≢ Memory → (p : Draft → plan.Plan) → plan.on_table (work_of seen.now)
+        table.now p ≡ plan.Refuse (answer_of why)) }
 {
     let Some(schema) = seen.schema(table.schema.as_str()) else {
         return Err(TxnNo::NoSchema {
@@ -41,10 +42,13 @@ fn drop_table_in(
     own: &mut ChangeList,
     table: &TableName,
 ) -> Result<(), TxnNo>
-    ensures planned { OnOk result (plan.drop_table (work_of seen.old) table.now ≡ plan.Append (table_drop (work_of seen.old) table.now) answer.Done) }
+    ensures planned { OnOk result (plan.drop_table (work_of seen.old) table.now ≡ plan.Append (table_drop (work_of
+        seen.old) table.now) answer.Done) }
     ensures own { OnOk result (own.new ≡ own.old ++ table_drop (work_of seen.old) table.now ∷ []) }
-    ensures seen { OnOk result (work_of seen.new ≡ bare (changed (work_of seen.old) (table_drop (work_of seen.old) table.now))) }
-    ensures refused { IfErr result (λ why. why ≢ Memory → plan.drop_table (work_of seen.old) table.now ≡ plan.Refuse (answer_of why)) }
+    ensures seen { OnOk result (work_of seen.new ≡ bare (changed (work_of seen.old) (table_drop (work_of seen.old)
+        table.now))) }
+    ensures refused { IfErr result (λ why. why ≢ Memory → plan.drop_table (work_of seen.old) table.now ≡ plan.Refuse
+        (answer_of why)) }
     ensures same_own { OnErr result (own.new ≡ own.old) }
     ensures same_seen { OnErr result (work_of seen.new ≡ work_of seen.old) }
 {

@@ -33,7 +33,8 @@ impl Seen {
 
     /// The table of a name in a schema.
     pub fn table(&self, schema: Ref, name: &str) -> Option<&SeenTable>
-        ensures { option_map spec.table_draft (option_copied result) ≡ plan.table_named (spec.work_of self.now) schema name.now }
+        ensures { option_map spec.table_draft (option_copied result) ≡ plan.table_named (spec.work_of
+            self.now) schema name.now }
     {
         for table in self.tables.as_slice() {
             if is_ref(table.schema, schema) && table.name.as_str() == name {

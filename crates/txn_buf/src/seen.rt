@@ -74,7 +74,8 @@ fn seen_tables<F: Held>(
     alloc: Global,
     tables: &[Arc<TableView<F>>],
 ) -> Result<Vec<SeenTable>, NoMemory>
-    ensures { IfOk result (λ seen. spec.table_drafts seen.items ≡ map spec.begun_table (named_tables F.name tables.now)) }
+    ensures { IfOk result (λ seen. spec.table_drafts seen.items ≡ map spec.begun_table (named_tables F.name
+        tables.now)) }
 {
     let mut seen = Vec::new(alloc);
     for table in tables {
