@@ -1,4 +1,4 @@
-//! Tests of the catalogue's rules, of changes texts and of spans. It has no other functions.
+//! Tests of the catalogue's rules, of changes texts, of spans and of what a snapshot sees. It has no other functions.
 #![tactic(auto)]
 
 #[cfg(test)]
@@ -6,4 +6,8 @@ mod changes;
 #[cfg(test)]
 mod sane;
 #[cfg(test)]
+mod seen;
+#[cfg(test)]
 mod spans;
+#[cfg(test)]
+mod views;

@@ -81,7 +81,7 @@ fn snapshot(id: u64, next_catalog_id: u64) -> CatRow {
     })
 }
 
-fn changes(alloc: Global, id: u64, text: &str) -> Result<CatRow, NoMemory> {
+pub fn changes(alloc: Global, id: u64, text: &str) -> Result<CatRow, NoMemory> {
     Ok(CatRow::SnapshotChanges(SnapshotChangesRow {
         snapshot_id: id,
         changes_made: Words::of(alloc, text)?,
@@ -254,7 +254,7 @@ fn add_further(alloc: Global, adds: &mut CatRowList, further: Further) -> Result
 }
 
 /// The catalogue of these rows, if they fit one.
-fn stored(alloc: Global, adds: CatRowList) -> Result<Option<CatRows>, NoMemory> {
+pub fn stored(alloc: Global, adds: CatRowList) -> Result<Option<CatRows>, NoMemory> {
     let batch = Batch {
         removes: Listed::new(alloc),
         ends: Listed::new(alloc),
@@ -302,7 +302,7 @@ fn is_told(alloc: Global, case: Case) -> Result<bool, NoMemory> {
 }
 
 /// Whether there is a catalogue, and it breaks no rule.
-fn is_sane(alloc: Global, stored: Option<CatRows>) -> Result<bool, NoMemory> {
+pub fn is_sane(alloc: Global, stored: Option<CatRows>) -> Result<bool, NoMemory> {
     match stored {
         Some(rows) => Ok(first_bad_row(alloc, &rows)?.is_none()),
         None => Ok(false),
