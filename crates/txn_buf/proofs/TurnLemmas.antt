@@ -1,7 +1,6 @@
 -- What one more change makes of a transaction.
 use Rattle.std.proofs.Common.{◌≡◌, ◌+◌, List, [], ◌∷◌, ◌++◌, map, filter, refl, sym, ap, ◌∙◌, Bool, true, false, fold, append_assoc, append-nil, arith}
 use Rattle.std.specs.Prelude.{not}
-use Rattle.std.proofs.lemmas.List.Sums.{fold-append}
 use Rattle.lake_model.specs.Apply.{Draft, Work, altered, at_table, begun, created, changed, drafted, is_ref, promoted, renamed, with_column, with_default, with_rows, with_updates, without_column, worked}
 use Rattle.lake_model.specs.Apply as Apply
 use Rattle.lake_model.specs.Rows.{change_weight, own_weight, weight_from}
@@ -9,6 +8,7 @@ use Rattle.lake_model.specs.State.{State, Table}
 use Rattle.lake_model.specs.declared.change.Change.{Change}
 use Rattle.lake_model.specs.declared.change.Change.TheVariants as change
 use Rattle.lake_model.specs.declared.change.Ref.{Ref}
+use Rattle.lake_model.proofs.FieldLemmas.{worked-more}
 use Rattle.cat_view.specs.Named.{NamedTable, NamedVersion}
 use Rattle.txn_buf.specs.Base.{IsBase, head_of}
 use Rattle.txn_buf.specs.Base as base
@@ -63,9 +63,6 @@ changed-bare w (change.DropSchema schema) = rw (once-bare w.tables) refl
 changed-bare w (change.CreateTable schema name columns) = rw (more-bare w.tables (created w.created_tables schema name columns)) refl
 changed-bare w (change.DropTable table) = rw (left-bare table w.tables) refl
 changed-bare w c = rw (all-bare c w.tables) refl
-
-worked-more : (base : State) (own : List Change) (c : Change) → worked base (own ++ c ∷ []) ≡ changed (worked base own) c
-worked-more base own c = fold-append changed (begun base) own (c ∷ [])
 
 -- what is seen after one more change
 pub seen-more : (base : State) (own : List Change) (c : Change) (old new : Work) → old ≡ bare (worked base own) → new ≡ bare (changed old c) → new ≡ bare (worked base (own ++ c ∷ []))
