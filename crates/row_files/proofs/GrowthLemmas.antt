@@ -1,5 +1,5 @@
 -- A list that only creates, drops and inserts names no old row and flushes nothing.
-use Rattle.std.proofs.Common.{◌≡◌, ◌==◌, ◌||◌, ◌++◌, ℕ, Bool, false, List, [], ◌∷◌, filter, map, Option, Some, None, refl, sym, ap, ap₂, arith}
+use Rattle.std.proofs.Common.{◌≡◌, ◌==◌, ◌||◌, ◌++◌, Bool, false, List, [], ◌∷◌, filter, map, Option, Some, None, refl, sym, ap, ap₂, arith}
 use Rattle.std.specs.List.{AllByRecursion, filter_map, flat_map, list_any}
 use Rattle.std.proofs.lemmas.List.{append-nil}
 use Rattle.lake_types.specs.declared.value.Row.{Row}
@@ -12,7 +12,7 @@ use Rattle.lake_model.specs.declared.change.Ref.TheVariants as ref
 use Rattle.lake_model.specs.declared.change.RowRef.{RowRef}
 use Rattle.cat_view.specs.Files.{Files}
 use Rattle.cat_view.specs.Named.{NamedFile, NamedTable, live_rows, ordered}
-use Rattle.cat_view.specs.Staged.{IsStagedFrom, IsStagedTable, MayHoldCells, NamedStagedFile, base_table, ends_inlined, file_with_row, firsts, flushes, images, names_row, nothing_for, old_id, rows_named, rows_updated, updates_row}
+use Rattle.cat_view.specs.Staged.{IsStagedFrom, NamedStagedFile, base_table, ends_inlined, file_with_row, firsts, flushes, images, nothing_for, old_id, rows_named, rows_updated, updates_row}
 use Rattle.row_files.specs.Laws.{StagesGrowth}
 
 pub record IsQuiet (at : Ref) (c : Change) : Type 0 where

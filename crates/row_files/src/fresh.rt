@@ -1,7 +1,7 @@
 ghost use Rattle.std.specs.Prelude.{◌≡◌, ◌≤◌, ◌⊎◌, false, Some, IfOk, IfSome, IfNone, IsSome, IsErrOf};
 ghost use Rattle.std.specs.List.{AllZip};
 ghost use Rattle.lake_io.specs.Causes.{Rose};
-ghost use Rattle.file_disk.specs.Folder.{Changes};
+ghost use Rattle.file_disk.specs.Folder.{Changes, MayBecomeAny, Touches};
 ghost use Rattle.new_files.specs.Drawing.{Drew, IfTaken};
 ghost use Rattle.new_files.specs.declared.fault.NewFileNo.TheVariants as new_file_no;
 ghost use Rattle.sheet_rows.specs.Sheets as sheets;
@@ -69,6 +69,8 @@ pub fn stage_rows<D: FileDisk, N: Names>(
     ensures files { IfOk result (λ x. Changes
         (AddsRows columns.now rows.now (named_file D.File.name D.File.size x) (D.File.bytes x.file) (D.images disk.new))
         (D.files disk.old) (D.files disk.new)) }
+    ensures images { IfOk result (λ x.
+        Touches MayBecomeAny (D.File.name x.file) (D.images disk.old) (D.images disk.new)) }
 
     ensures taken { IfTaken result (λ name. Drew false (N.drawn names.old) (N.drawn names.new) name) }
     ensures exists { IfTaken result (λ name. IfSome (D.files disk.old) (λ old. IsSome (old name))) }
