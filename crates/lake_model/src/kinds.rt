@@ -15,7 +15,7 @@ use std::alloc::{AllocError, Global};
 use std::cmp::Ordering;
 
 /// Whether two references name one thing.
-fn is_ref(a: Ref, b: Ref) -> bool
+pub fn is_ref(a: Ref, b: Ref) -> bool
     ensures { result ≡ apply.is_ref a b }
 {
     match (a, b) {

@@ -39,7 +39,7 @@ ends name front end e =
 
 -- ---- different names
 
-uuid_length : (number : ℕ) → length (uuid_of number) ≡ 36
+pub uuid_length : (number : ℕ) → length (uuid_of number) ≡ 36
 uuid_length number = by_index_length 36 _
 
 -- one uuid is that of one number

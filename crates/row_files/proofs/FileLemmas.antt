@@ -10,7 +10,7 @@ use Rattle.new_files.specs.Drawing.{Drew, Wrote}
 use Rattle.new_files.specs.Names.{ending, name_of, uuid_of}
 use Rattle.new_files.specs.Writing.{AddsBytes}
 use Rattle.new_files.specs.declared.fault.NewFileNo.{NewFileNo}
-use Rattle.uuid.proofs.TextLemmas.{by_index_length}
+use Rattle.new_files.proofs.NameLemmas.{uuid_length}
 use Rattle.sheet_rows.specs.Sheets.{AreCounts, sheet_of, sheet_weight}
 use Rattle.cat_view.specs.Staged.{NamedStagedFile}
 use Rattle.row_files.specs.Folders.{filed, files_of, sheet_in}
@@ -20,15 +20,12 @@ use Rattle.row_files.proofs.FreshLemmas.{holds_cells}
 
 -- ---- names are short
 
-uuid_is_short : (number : ℕ) → length (uuid_of number) ≡ 36
-uuid_is_short number = by_index_length 36 _
-
 ending_is_short : (deletes : Bool) → length (ending deletes) ≤ 15
 ending_is_short true = let count : length (ending true) ≡ 15 = refl in omega (arith, count)
 ending_is_short false = let count : length (ending false) ≡ 8 = refl in omega (arith, count)
 
 name_is_short : (number : ℕ) (deletes : Bool) → length (name_of number deletes) ≤ MAX_PATH_BYTES
-name_is_short number deletes = omega (arith, length-append (uuid_of number) (ending deletes), uuid_is_short number, ending_is_short deletes)
+name_is_short number deletes = omega (arith, length-append (uuid_of number) (ending deletes), uuid_length number, ending_is_short deletes)
 
 drawn_is_short : (deletes : Bool) (before now : Option (List ℕ)) (name : List ℕ) → Drew deletes before now name → length name ≤ MAX_PATH_BYTES
 drawn_is_short deletes before now name drew = omega (arith, ap length drew.spells, name_is_short drew.number deletes)

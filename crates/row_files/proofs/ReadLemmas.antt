@@ -18,6 +18,7 @@ use Rattle.sheet_rows.specs.Live as live
 use Rattle.sheet_rows.specs.Live.{StatedDeletes, by_column, deleted_in, is_as_stated, is_delete_sheet, laid_rows, live_of, number_in, rise_within, with_id, with_ids}
 use Rattle.sheet_rows.specs.Sheets.{HasCells, cells_of, row_cells, sheet_weight}
 use Rattle.sheet_rows.specs.declared.live.Stated.{Stated}
+use Rattle.sheet_rows.proofs.DeleteLemmas.{rising}
 
 -- a sheet that was read has a cell for each row
 pub sound_cells : (sheet : Sheet) → IsSound sheet → All (HasCells sheet.rows) sheet.columns
@@ -68,13 +69,6 @@ row_count stated columns sheet rows e =
     ∙ length-map (cells_of sheet) (laid_cells columns) ∙ length-map-range_with_len (row_cells sheet.columns) 0 sheet.rows ∙ eqb-true sheet.rows stated.rows same.0
 
 -- ---- places
-
-rising : (a b c d : Bool) (xs ys : List ℕ) → cond (a && (b && (c && d))) (Some xs) None ≡ Some ys → (d ≡ true) × (xs ≡ ys)
-rising true true true true xs ys e = (refl, cc)
-rising true true true false xs ys e = none_is ys e
-rising true true false d xs ys e = none_is ys e
-rising true false c d xs ys e = none_is ys e
-rising false b c d xs ys e = none_is ys e
 
 pub places_rise : (stated : StatedDeletes) (sheet : Sheet) (places : List ℕ) → deleted_in stated sheet ≡ Some places → rise_within 0 stated.rows places ≡ true
 places_rise stated sheet places e =

@@ -10,7 +10,7 @@ use Rattle.sheet_rows.specs.Live.{are_numbers, names_only, number_in, path_field
 use Rattle.sheet_rows.proofs.PlaceLemmas.{all_below, all_rise}
 
 -- where places are told, they rise
-rising : (a b c d : Bool) (xs ys : List ℕ) → cond (a && (b && (c && d))) (Some xs) None ≡ Some ys → (d ≡ true) × (xs ≡ ys)
+pub rising : (a b c d : Bool) (xs ys : List ℕ) → cond (a && (b && (c && d))) (Some xs) None ≡ Some ys → (d ≡ true) × (xs ≡ ys)
 rising true true true true xs ys e = (refl, cc)
 rising true true true false xs ys e = absurd (cc e)
 rising true true false d xs ys e = absurd (cc e)

@@ -2,9 +2,8 @@ ghost use Rattle.std.specs.Prelude.{◌≡◌};
 ghost use Rattle.lake_model.specs.Apply as apply;
 ghost use Rattle.txn_buf.specs.Drafts.{bare, work_of};
 
-use crate::find::is_ref;
 use crate::seen::Seen;
-use lake_model::Ref;
+use lake_model::{Ref, is_ref};
 
 impl Seen {
     /// Takes a schema away.

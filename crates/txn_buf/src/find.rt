@@ -1,22 +1,10 @@
 ghost use Rattle.std.specs.Prelude.{◌≡◌, option_map};
 ghost use Rattle.std.specs.Option.{option_copied};
-ghost use Rattle.lake_model.specs.Apply as apply;
 ghost use Rattle.lake_model.specs.Plans as plan;
 ghost use Rattle.txn_buf.specs.Drafts as spec;
 
 use crate::seen::{Seen, SeenTable};
-use lake_model::Ref;
-
-/// Whether two references name one thing.
-pub fn is_ref(a: Ref, b: Ref) -> bool
-    ensures { result ≡ apply.is_ref a b }
-{
-    match (a, b) {
-        (Ref::Old(a), Ref::Old(b)) => a == b,
-        (Ref::New(a), Ref::New(b)) => a == b,
-        _ => false,
-    }
-}
+use lake_model::{Ref, is_ref};
 
 impl Seen {
     /// The schema of a name.
