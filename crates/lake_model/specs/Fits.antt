@@ -17,7 +17,7 @@ use Rattle.lake_model.specs.declared.change.Change.TheVariants as change
 use Rattle.lake_model.specs.declared.change.Ref.{Ref}
 use Rattle.lake_model.specs.declared.change.RowRef.{RowRef}
 
--- ---- sizes
+-- ---- sizes, and that a table has a column
 
 abbrev pub IsAtMost : ℕ → Value → Type 0
 IsAtMost most (value.Text text) = length text ≤ most
@@ -35,7 +35,7 @@ IsColumn c = IsName c.name × IsAtMost MAX_DEFAULT_BYTES c.initial × IsAtMost M
 
 abbrev pub IsSized : Change → Type 0
 IsSized (change.CreateSchema name) = IsName name
-IsSized (change.CreateTable schema name columns) = IsName name × AllByRecursion IsColumn columns
+IsSized (change.CreateTable schema name columns) = IsName name × (columns ≢ []) × AllByRecursion IsColumn columns
 IsSized (change.AddColumn table column) = IsColumn column
 IsSized (change.RenameColumn table field name) = IsName name
 IsSized (change.SetDefault table field v) = IsAtMost MAX_DEFAULT_BYTES v
