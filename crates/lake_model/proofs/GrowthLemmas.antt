@@ -46,7 +46,7 @@ inserted_first table rows own d = go (is_ref d.at table) refl
     go false e = rw e refl
 
 -- what is left of a table is its draft with the list's rows
-grows : (own : List Change) (d : Draft) → AllByRecursion IsGrowth own → draft_after own d ≡ cond (drops_table own d.at) None (Some (with_own_rows own d))
+pub grows : (own : List Change) (d : Draft) → AllByRecursion IsGrowth own → draft_after own d ≡ cond (drops_table own d.at) None (Some (with_own_rows own d))
 grows [] d h = ap Some (sym (no_rows d))
 grows (change.CreateSchema name ∷ own) d h = grows own d h.1
 grows (change.DropSchema schema ∷ own) d h = grows own d h.1
@@ -72,7 +72,7 @@ grows (change.Flush table ∷ own) d h = absurd h.0
 
 -- ---- all tables
 
-left_laid : (columns : List Column) (rows : List Cells) → left (map (λ cells. Some (laid_cells columns cells)) rows) ≡ map (laid_cells columns) rows
+pub left_laid : (columns : List Column) (rows : List Cells) → left (map (λ cells. Some (laid_cells columns cells)) rows) ≡ map (laid_cells columns) rows
 left_laid columns [] = refl
 left_laid columns (cells ∷ rows) = ap (λ l. laid_cells columns cells ∷ l) (left_laid columns rows)
 
@@ -96,7 +96,7 @@ old-tables next new own (t ∷ ts) h =
     go true e more = rw e more
     go false e more = rw e (ap₂ ◌∷◌ (settled-old next new own t) more)
 
-made-tables : (n : ℕ) (own : List Change) → AllByRecursion IsGrowth own → made_from n own ≡ made_tables n own
+pub made-tables : (n : ℕ) (own : List Change) → AllByRecursion IsGrowth own → made_from n own ≡ made_tables n own
 made-tables n [] h = refl
 made-tables n (change.CreateTable schema name columns ∷ own) h =
     ap (λ o. cons_option o (made_from (n + 1) own)) (grows own (created n schema name columns) h.1)

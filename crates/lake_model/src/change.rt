@@ -3,7 +3,7 @@ use std::alloc::{AllocError, Global};
 
 /// A schema or a table: an old one by its id, or one that the list of changes creates, by its place from 0 among the
 /// list's creations of that sort.
-#[derive(Clone, Copy, Debug, PartialEq, Eq)]
+#[derive(Clone, Copy, Debug, PartialEq, Eq, Hash)]
 pub enum Ref {
     Old(u64),
     New(u64),
