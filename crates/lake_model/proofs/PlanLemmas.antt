@@ -1,11 +1,12 @@
 -- What holds of each change that a statement appends.
-use Rattle.std.proofs.Common.{◌≡◌, List, [], ◌∷◌, ◌++◌, refl, sym, ap, subst, ◌∙◌, Bool, true, false}
+use Rattle.std.proofs.Common.{◌≡◌, ◌+◌, suc, length, List, [], ◌∷◌, ◌++◌, refl, sym, ap, subst, ◌∙◌, Bool, true, false}
 use Rattle.std.specs.Prelude.{ℕ, Option, Some, None, find}
 use Rattle.std.specs.List.{AllByRecursion}
+use Rattle.lake_types.specs.declared.stmt.ColumnDef.{ColumnDef}
 use Rattle.lake_types.specs.declared.stmt.Stmt.{Stmt}
 use Rattle.lake_types.specs.declared.stmt.TableName.{TableName}
 use Rattle.lake_types.specs.declared.value.Column.{Column}
-use Rattle.lake_model.specs.Apply.{Draft, Work, worked}
+use Rattle.lake_model.specs.Apply.{Draft, Work, fields_from, worked}
 use Rattle.lake_model.specs.Plans as p
 use Rattle.lake_model.specs.Plans.{Plan, Append, Leave, Refuse, unless}
 use Rattle.lake_model.specs.State.{State}
@@ -100,3 +101,13 @@ module _ (K : Change → Type 0) where
   pub appended-holds : (plan : Plan) (c : Change) (a : Answer) → plan ≡ Append c a → Holds plan → K c
   unfolding Holds
   appended-holds plan c a e h = subst Holds e h
+
+-- ---- the columns of a new table
+
+pub fields-are : (field : ℕ) (defs : List ColumnDef) → fields_from field (p.columns_from field defs) ≡ p.columns_from field defs
+fields-are field [] = refl
+fields-are field (def ∷ defs) = ap (λ cs. p.column_of field def ∷ cs) (fields-are (field + 1) defs)
+
+pub columns-length : (field : ℕ) (defs : List ColumnDef) → length (p.columns_from field defs) ≡ length defs
+columns-length field [] = refl
+columns-length field (def ∷ defs) = ap suc (columns-length (field + 1) defs)

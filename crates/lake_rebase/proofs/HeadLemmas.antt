@@ -2,7 +2,7 @@
 use Rattle.std.proofs.Common.{◌≡◌, ◌≢◌, ◌≤◌, ◌<◌, ◌+◌, ◌⊎◌, ℕ, Bool, true, false, not, List, [], ◌∷◌, length, map, Contains, refl, sym, ap, subst, ◌∙◌, inl, inr, arith}
 use Rattle.std.specs.Prelude.{Option, Some, None, IsSome, unwrap_or}
 use Rattle.std.specs.List.{AllByRecursion}
-use Rattle.std.proofs.lemmas.Bool.{eq-eqb}
+use Rattle.std.proofs.lemmas.Bool.{eq-eqb, not-true}
 use Rattle.lake_types.specs.Kinds.{AreNamed, name_of}
 use Rattle.lake_types.specs.declared.kind.Kind.{Kind}
 use Rattle.lake_types.specs.declared.kind.Kind.TheVariants as kind
@@ -81,10 +81,6 @@ module _ (s : State) (own : List Change) where
     pub draft : Draft
     pub there : In draft (made_tables 0 own)
     pub is : settled_table s.next_catalog (creations 0 0 own) draft ≡ t
-
-  not-true : (b : Bool) → not b ≡ true → b ≡ false
-  not-true true e = absurd cc
-  not-true false e = refl
 
   pub schema-cases : (x : SchemaName) → In x (grown_state s own).schemas → IsLeftSchema x ⊎ IsMadeSchema x
   schema-cases x there = go (in_cases x (growth.left_schemas s own) (new_schemas s.next_catalog own) there)

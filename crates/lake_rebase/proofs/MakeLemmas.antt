@@ -6,7 +6,7 @@ use Rattle.std.proofs.lemmas.List.Folds.{list_any-append}
 use Rattle.std.specs.Cmp.{unsigned_ties}
 use Rattle.std.specs.Cmp.Lexicographic.{lists_ties, slice_cmp}
 use Rattle.std.specs.Ordering.{nat_cmp}
-use Rattle.std.proofs.lemmas.Bool.{eq-eqb, eqb-true}
+use Rattle.std.proofs.lemmas.Bool.{eq-eqb, eqb-true, not-true}
 use Rattle.lake_types.specs.Kinds.{AreNamed, IsNamed, kind_cmp, name_of, rank, subject, then_by}
 use Rattle.lake_types.specs.declared.kind.Kind.{Kind}
 use Rattle.lake_types.specs.declared.kind.Kind.TheVariants as kind
@@ -88,10 +88,6 @@ pub record IsOldSchema (base : State) (own : List Change) (x : SchemaDraft) : Ty
   pub there : In schema base.schemas
   pub is : drafted_schema schema ≡ x
   pub stays : drops_schema own (ref.Old schema.id) ≡ false
-
-not-true : (b : Bool) → not b ≡ true → b ≡ false
-not-true true e = absurd cc
-not-true false e = refl
 
 pub schemas-of : (base : State) (own : List Change) (x : SchemaDraft) → In x (worked base own).schemas → IsOldSchema base own x ⊎ In x (made_schemas 0 own)
 schemas-of base own x there =

@@ -1,10 +1,10 @@
 -- A list that a transaction may have leaves what it works on tidy.
-use Rattle.std.proofs.Common.{◌≡◌, ◌≢◌, ◌≤◌, ◌+◌, ◌⊎◌, ◌&&◌, append_assoc, ℕ, suc, Bool, true, false, not, List, [], ◌∷◌, ◌++◌, length, map, filter, Some, None, Option, is_none, find, refl, sym, ap, subst, ◌∙◌, inl, inr, arith}
+use Rattle.std.proofs.Common.{◌≡◌, ◌≢◌, ◌≤◌, ◌+◌, ◌⊎◌, ◌&&◌, append_assoc, ℕ, Bool, true, false, not, List, [], ◌∷◌, ◌++◌, length, map, filter, Some, None, Option, is_none, find, refl, sym, ap, subst, ◌∙◌, inl, inr, arith}
 use Rattle.std.specs.Prelude.{nat_lt}
 use Rattle.std.proofs.lemmas.List.{append-nil}
 use Rattle.std.specs.List.{AllByRecursion, list_any}
 use Rattle.std.specs.Option.{option_map}
-use Rattle.std.proofs.lemmas.Bool.{eq-eqb, eqb-true}
+use Rattle.std.proofs.lemmas.Bool.{eq-eqb, eqb-true, not-false}
 use Rattle.lake_types.specs.Cells.{column_named}
 use Rattle.lake_types.specs.Fits.{fits}
 use Rattle.lake_types.specs.declared.limits.TheConstants.{MAX_COLUMNS}
@@ -31,6 +31,7 @@ use Rattle.lake_model.specs.declared.change.Ref.{Ref}
 use Rattle.lake_model.specs.declared.change.Ref.TheVariants as ref
 use Rattle.lake_model.proofs.FieldLemmas.{worked-more}
 use Rattle.lake_model.proofs.PlanLemmas as plan
+use Rattle.lake_model.proofs.PlanLemmas.{columns-length, fields-are}
 use Rattle.lake_rebase.specs.Tidy.{AreTidyColumns, IsTidy, IsTidyColumn}
 use Rattle.lake_rebase.proofs.MemberLemmas.{In, all_by, all_in, found_in, in_cases, in_kept, in_left, in_map, in_of, is_same, kept_in, map_in, none_in, of_in}
 
@@ -125,29 +126,17 @@ empty_schema w at (x ∷ ds) e d there same = go (is_ref x.schema at) refl (empt
 
 -- ---- the columns of a created table
 
-fields-are : (k : ℕ) (defs : List ColumnDef) → fields_from k (columns_from k defs) ≡ columns_from k defs
-fields-are k [] = refl
-fields-are k (def ∷ defs) = ap (λ cs. column_of k def ∷ cs) (fields-are (k + 1) defs)
-
-columns-length : (k : ℕ) (defs : List ColumnDef) → length (columns_from k defs) ≡ length defs
-columns-length k [] = refl
-columns-length k (def ∷ defs) = ap suc (columns-length (k + 1) defs)
-
 record IsFaultless (before : List ColumnDef) (def : ColumnDef) (defs : List ColumnDef) : Type 0 where
   name : list_any (λ (b : ColumnDef). same_name b.name def.name) before ≡ false
   fitting : fits (default_of def) def.ty ≡ true
   rest : new_columns_fault (def ∷ before) defs ≡ None
-
-not_false : (b : Bool) → not b ≡ false → b ≡ true
-not_false true e = refl
-not_false false e = absurd cc
 
 faultless : (before : List ColumnDef) (def : ColumnDef) (defs : List ColumnDef) → new_columns_fault before (def ∷ defs) ≡ None → IsFaultless before def defs
 faultless before def defs e =
     let one = first_none (new_column_fault before def) (new_columns_fault (def ∷ before) defs) e in
     let used = first_none (refused_if (list_any (λ (b : ColumnDef). same_name b.name def.name) before) _) _ one.0 in
     let wrong = first_none (refused_if (not (fits (default_of def) def.ty)) _) _ used.1 in
-    record { name = not_refused _ _ used.0; fitting = not_false _ (not_refused _ _ wrong.0); rest = one.1 }
+    record { name = not_refused _ _ used.0; fitting = not-false _ (not_refused _ _ wrong.0); rest = one.1 }
 
 none-alike : (name : List ℕ) (before : List ColumnDef) → list_any (λ (b : ColumnDef). same_name b.name name) before ≡ false → (b : ColumnDef) → In b before → b.name ≡ name → ⊥
 none-alike name [] e b there same = absurd there

@@ -8,6 +8,7 @@ use Rattle.lake_model.specs.Plans.{columns_from}
 use Rattle.lake_model.specs.declared.change.Change.TheVariants as change
 use Rattle.lake_model.specs.declared.change.Ref.{Ref}
 use Rattle.lake_model.specs.declared.change.Ref.TheVariants as ref
+use Rattle.lake_model.proofs.PlanLemmas.{columns-length, fields-are}
 use Rattle.txn_buf.specs.Drafts.{bare, bare_draft, created_table, schema_draft, table_draft, table_drafts, work_of}
 use Rattle.txn_buf.specs.declared.seen.Seen.{Seen}
 use Rattle.txn_buf.specs.declared.seen.SeenTable.{SeenTable}
@@ -46,20 +47,12 @@ table-removed old new at tables schemas count same =
     ap (map bare_draft) (sym (map-filter table_draft (λ (d : Draft). not (is_ref d.at at)) old.tables.items)) ∙ ap (λ (ts : List SeenTable). map bare_draft (table_drafts ts)) (sym tables) ∙ drafts-bare new.tables.items in
     rw (bared, schemas, count, same) refl
 
-same-fields : (field : ℕ) (defs : List ColumnDef) → fields_from field (columns_from field defs) ≡ columns_from field defs
-same-fields field [] = refl
-same-fields field (def ∷ defs) = rw (same-fields (field + 1) defs) refl
-
-columns-length : (field : ℕ) (defs : List ColumnDef) → length (columns_from field defs) ≡ length defs
-columns-length field [] = refl
-columns-length field (def ∷ defs) = ap suc (columns-length (field + 1) defs)
-
 pub table-created : (old new : Seen) (schema : Ref) (name : List ℕ) (defs : List ColumnDef) (kept : SeenTable)
     → kept ≡ created_table old.created_tables schema name defs
     → new.tables.items ≡ old.tables.items ++ kept ∷ [] → new.schemas.items ≡ old.schemas.items → new.created_tables ≡ old.created_tables + 1 → new.created_schemas ≡ old.created_schemas
     → work_of new ≡ bare (with_table (work_of old) schema name (columns_from 1 defs))
 table-created old new schema name defs kept is tables schemas count same =
-    let draft : table_draft kept ≡ created old.created_tables schema name (columns_from 1 defs) = rw (is, same-fields 1 defs, columns-length 1 defs) refl in
+    let draft : table_draft kept ≡ created old.created_tables schema name (columns_from 1 defs) = rw (is, fields-are 1 defs, columns-length 1 defs) refl in
     let more : table_drafts new.tables.items ≡ table_drafts old.tables.items ++ created old.created_tables schema name (columns_from 1 defs) ∷ [] =
     ap table_drafts tables ∙ map-append table_draft old.tables.items (kept ∷ []) ∙ ap (λ (d : Draft). table_drafts old.tables.items ++ d ∷ []) draft in
     let bared : map bare_draft (table_drafts old.tables.items ++ created old.created_tables schema name (columns_from 1 defs) ∷ []) ≡ table_drafts new.tables.items =
