@@ -1,0 +1,6 @@
+pub mod TableLemmas
+pub mod EndedLemmas
+pub mod CoreLemmas
+pub mod HistoryLemmas
+pub mod IntervalLemmas
+pub mod CounterLemmas

@@ -1,0 +1,18 @@
+//! The batch of a commit breaks none of the twelve rules of a sane catalogue. Each function's contract is a law, and its
+//! body is empty.
+#![tactic(auto)]
+
+ghost use Rattle.cat_rules.specs.CounterRule.{IsIdBad};
+ghost use Rattle.cat_rules.specs.HistoryRule.{IsHistoryBad};
+ghost use Rattle.cat_rules.specs.IntervalRule.{IsIntervalBad};
+ghost use Rattle.cat_rules.specs.LayoutRule.{IsLayoutBad};
+ghost use Rattle.commit_rules.specs.Laws.{RuleStays};
+
+/// The rules about a catalogue's history: its layout (1), snapshots and changes texts (2), validity intervals (3) and the
+/// counters of the newest snapshot (12).
+pub fn history_stays()
+    ensures layout { RuleStays IsLayoutBad }
+    ensures history { RuleStays IsHistoryBad }
+    ensures intervals { RuleStays IsIntervalBad }
+    ensures ids { RuleStays IsIdBad }
+{}
