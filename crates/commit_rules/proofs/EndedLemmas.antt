@@ -34,20 +34,25 @@ module _ {R Y : Type 0} (key : R → List ℕ) (v : Validity R) (laws : IsValidi
       go None q = ap (is_end s) (laws.end_is (Some m) r) ∙ apart ∙ sym (ap (is_end s) q)
       go (Some x) q = refl
 
-  edited_other : (s m : ℕ) → (m == s) ≡ false → (k : List ℕ) (rs : List R) → map f (filter (ends_there s) (edited key (ended_at v m) k rs)) ≡ map f (filter (ends_there s) rs)
-  edited_other s m apart k [] = refl
-  edited_other s m apart k (r ∷ rs) =
-      elim (has_key key k r) as (λ b. map f (filter (ends_there s) (cond b (ended_at v m r) r ∷ edited key (ended_at v m) k rs)) ≡ map f (filter (ends_there s) (r ∷ rs)))
-      [ true ↦ both (edited_other s m apart k rs) (ends_there s r) (ended_at v m r) (other_end s m apart r) (same_ended m r) | false ↦ both (edited_other s m apart k rs) (ends_there s r) r refl refl ]
-    where
-      both : map f (filter (ends_there s) (edited key (ended_at v m) k rs)) ≡ map f (filter (ends_there s) rs) → (b : Bool) (q : R) → ends_there s q ≡ b → f q ≡ f r
-          → map f (cond (ends_there s q) (q ∷ filter (ends_there s) (edited key (ended_at v m) k rs)) (filter (ends_there s) (edited key (ended_at v m) k rs))) ≡ map f (cond b (r ∷ filter (ends_there s) rs) (filter (ends_there s) rs))
-      both more true q e g = rw e (ap₂ ◌∷◌ g more)
-      both more false q e g = rw e more
+  -- a test that ends at m make no difference to
+  module _ (q : R → Bool) (m : ℕ) (alike : (r : R) → q (ended_at v m r) ≡ q r) where
+    edited_alike : (k : List ℕ) (rs : List R) → map f (filter q (edited key (ended_at v m) k rs)) ≡ map f (filter q rs)
+    edited_alike k [] = refl
+    edited_alike k (r ∷ rs) =
+        elim (has_key key k r) as (λ b. map f (filter q (cond b (ended_at v m r) r ∷ edited key (ended_at v m) k rs)) ≡ map f (filter q (r ∷ rs)))
+        [ true ↦ both (edited_alike k rs) (q r) (ended_at v m r) (alike r) (same_ended m r) | false ↦ both (edited_alike k rs) (q r) r refl refl ]
+      where
+        both : map f (filter q (edited key (ended_at v m) k rs)) ≡ map f (filter q rs) → (b : Bool) (x : R) → q x ≡ b → f x ≡ f r
+            → map f (cond (q x) (x ∷ filter q (edited key (ended_at v m) k rs)) (filter q (edited key (ended_at v m) k rs))) ≡ map f (cond b (r ∷ filter q rs) (filter q rs))
+        both more true x e g = rw e (ap₂ ◌∷◌ g more)
+        both more false x e g = rw e more
+
+    pub ended_alike : (ends rs : List R) → map f (filter q (all_ended v key (ends_at key m ends) rs)) ≡ map f (filter q rs)
+    ended_alike [] rs = refl
+    ended_alike (e ∷ ends) rs = ended_alike ends (edited key (ended_at v m) (key e) rs) ∙ edited_alike (key e) rs
 
   pub ended_other : (s m : ℕ) → (m == s) ≡ false → (ends rs : List R) → map f (filter (ends_there s) (all_ended v key (ends_at key m ends) rs)) ≡ map f (filter (ends_there s) rs)
-  ended_other s m apart [] rs = refl
-  ended_other s m apart (e ∷ ends) rs = ended_other s m apart ends (edited key (ended_at v m) (key e) rs) ∙ edited_other s m apart (key e) rs
+  ended_other s m apart ends rs = ended_alike (ends_there s) m (other_end s m apart) ends rs
 
   -- ---- ends at this snapshot
 

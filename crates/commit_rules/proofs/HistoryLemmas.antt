@@ -78,15 +78,15 @@ none-missing (r ∷ rs) h x up last next whole k bad =
 
 -- ---- rows that are found
 
-is_true : (b : Bool) → (not b ≡ true → ⊥) → b ≡ true
+pub is_true : (b : Bool) → (not b ≡ true → ⊥) → b ≡ true
 is_true true f = refl
 is_true false f = absurd (f refl)
 
-no_not : (b : Bool) → b ≡ true → not b ≡ true → ⊥
+pub no_not : (b : Bool) → b ≡ true → not b ≡ true → ⊥
 no_not true e bad = true≢false (sym bad)
 no_not false e bad = true≢false (sym e)
 
-some_of : {X : Type 0} (o : Option X) → is_some o ≡ true → (x : X) × (o ≡ Some x)
+pub some_of : {X : Type 0} (o : Option X) → is_some o ≡ true → (x : X) × (o ≡ Some x)
 some_of None e = absurd (true≢false (sym e))
 some_of (Some x) e = (x, refl)
 
@@ -99,7 +99,7 @@ new_there key k new rs e =
     ⊎_elim (λ (m : FindsNew key k (new ∷ []) (row_of key k (put key new rs))). ap is_some m.is)
     (λ (m : FindsOld key k (new ∷ []) rs (row_of key k (put key new rs))). absurd (true≢false (sym (subst (λ l. has_key key l new ≡ true) e (same_key key new)) ∙ m.none.0))) (row_of-put_all key k (new ∷ []) rs)
 
-first_number : {a b : ℕ} → a ∷ [] ≡ b ∷ [] → a ≡ b
+pub first_number : {a b : ℕ} → a ∷ [] ≡ b ∷ [] → a ≡ b
 first_number e = cc
 
 module _ (t : Tables) (head : SnapshotRow) (p : Parts) (endings : Endings) (c : IsCommit t head p endings) where

@@ -4,3 +4,5 @@ pub mod CoreLemmas
 pub mod HistoryLemmas
 pub mod IntervalLemmas
 pub mod CounterLemmas
+pub mod StatsLemmas
+pub mod SchemaLemmas

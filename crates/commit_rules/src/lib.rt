@@ -2,10 +2,13 @@
 //! body is empty.
 #![tactic(auto)]
 
+ghost use Rattle.cat_rules.specs.ColumnRule.{AreColumnsBad};
 ghost use Rattle.cat_rules.specs.CounterRule.{IsIdBad};
 ghost use Rattle.cat_rules.specs.HistoryRule.{IsHistoryBad};
 ghost use Rattle.cat_rules.specs.IntervalRule.{IsIntervalBad};
 ghost use Rattle.cat_rules.specs.LayoutRule.{IsLayoutBad};
+ghost use Rattle.cat_rules.specs.SchemaRule.{IsSchemaNameBad};
+ghost use Rattle.cat_rules.specs.TableRule.{IsTableBad};
 ghost use Rattle.commit_rules.specs.Laws.{RuleStays};
 
 /// The rules about a catalogue's history: its layout (1), snapshots and changes texts (2), validity intervals (3) and the
@@ -15,4 +18,11 @@ pub fn history_stays()
     ensures history { RuleStays IsHistoryBad }
     ensures intervals { RuleStays IsIntervalBad }
     ensures ids { RuleStays IsIdBad }
+{}
+
+/// The rules about names of schemas (4), tables (5) and columns (6).
+pub fn schema_rules_stay()
+    ensures schemas { RuleStays IsSchemaNameBad }
+    ensures tables { RuleStays IsTableBad }
+    ensures columns { RuleStays AreColumnsBad }
 {}
