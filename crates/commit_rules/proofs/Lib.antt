@@ -6,3 +6,6 @@ pub mod IntervalLemmas
 pub mod CounterLemmas
 pub mod StatsLemmas
 pub mod SchemaLemmas
+pub mod FileLemmas
+pub mod PathLemmas
+pub mod ColumnStatsLemmas

@@ -3,12 +3,16 @@
 #![tactic(auto)]
 
 ghost use Rattle.cat_rules.specs.ColumnRule.{AreColumnsBad};
+ghost use Rattle.cat_rules.specs.ColumnStatsRule.{IsColumnStatsBad};
 ghost use Rattle.cat_rules.specs.CounterRule.{IsIdBad};
+ghost use Rattle.cat_rules.specs.DataFileRule.{IsDataFileBad};
+ghost use Rattle.cat_rules.specs.DeleteFileRule.{IsDeleteFileBad};
 ghost use Rattle.cat_rules.specs.HistoryRule.{IsHistoryBad};
 ghost use Rattle.cat_rules.specs.IntervalRule.{IsIntervalBad};
 ghost use Rattle.cat_rules.specs.LayoutRule.{IsLayoutBad};
 ghost use Rattle.cat_rules.specs.SchemaRule.{IsSchemaNameBad};
 ghost use Rattle.cat_rules.specs.TableRule.{IsTableBad};
+ghost use Rattle.cat_rules.specs.TableStatsRule.{IsStatsBad};
 ghost use Rattle.commit_rules.specs.Laws.{RuleStays};
 
 /// The rules about a catalogue's history: its layout (1), snapshots and changes texts (2), validity intervals (3) and the
@@ -25,4 +29,13 @@ pub fn schema_rules_stay()
     ensures schemas { RuleStays IsSchemaNameBad }
     ensures tables { RuleStays IsTableBad }
     ensures columns { RuleStays AreColumnsBad }
+{}
+
+/// The rules about data files and the paths of files (7), delete files (8), and the statistics of columns (9) and tables
+/// (11).
+pub fn file_rules_stay()
+    ensures data_files { RuleStays IsDataFileBad }
+    ensures delete_files { RuleStays IsDeleteFileBad }
+    ensures column_stats { RuleStays IsColumnStatsBad }
+    ensures table_stats { RuleStays IsStatsBad }
 {}
