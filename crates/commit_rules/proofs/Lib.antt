@@ -9,3 +9,4 @@ pub mod SchemaLemmas
 pub mod FileLemmas
 pub mod PathLemmas
 pub mod ColumnStatsLemmas
+pub mod InlinedLemmas

@@ -8,6 +8,7 @@ ghost use Rattle.cat_rules.specs.CounterRule.{IsIdBad};
 ghost use Rattle.cat_rules.specs.DataFileRule.{IsDataFileBad};
 ghost use Rattle.cat_rules.specs.DeleteFileRule.{IsDeleteFileBad};
 ghost use Rattle.cat_rules.specs.HistoryRule.{IsHistoryBad};
+ghost use Rattle.cat_rules.specs.InlinedRule.{AreInlinedBad};
 ghost use Rattle.cat_rules.specs.IntervalRule.{IsIntervalBad};
 ghost use Rattle.cat_rules.specs.LayoutRule.{IsLayoutBad};
 ghost use Rattle.cat_rules.specs.SchemaRule.{IsSchemaNameBad};
@@ -38,4 +39,9 @@ pub fn file_rules_stay()
     ensures delete_files { RuleStays IsDeleteFileBad }
     ensures column_stats { RuleStays IsColumnStatsBad }
     ensures table_stats { RuleStays IsStatsBad }
+{}
+
+/// The rule about rows that lie in the catalogue itself (10).
+pub fn inlined_rule_stays()
+    ensures { RuleStays AreInlinedBad }
 {}
