@@ -10,3 +10,4 @@ pub mod FileLemmas
 pub mod PathLemmas
 pub mod ColumnStatsLemmas
 pub mod InlinedLemmas
+pub mod WholeLemmas

@@ -14,7 +14,7 @@ ghost use Rattle.cat_rules.specs.LayoutRule.{IsLayoutBad};
 ghost use Rattle.cat_rules.specs.SchemaRule.{IsSchemaNameBad};
 ghost use Rattle.cat_rules.specs.TableRule.{IsTableBad};
 ghost use Rattle.cat_rules.specs.TableStatsRule.{IsStatsBad};
-ghost use Rattle.commit_rules.specs.Laws.{RuleStays};
+ghost use Rattle.commit_rules.specs.Laws.{RuleStays, RulesStay};
 
 /// The rules about a catalogue's history: its layout (1), snapshots and changes texts (2), validity intervals (3) and the
 /// counters of the newest snapshot (12).
@@ -44,4 +44,9 @@ pub fn file_rules_stay()
 /// The rule about rows that lie in the catalogue itself (10).
 pub fn inlined_rule_stays()
     ensures { RuleStays AreInlinedBad }
+{}
+
+/// All twelve, where the rows before broke none.
+pub fn rules_stay()
+    ensures { RulesStay }
 {}
