@@ -39,7 +39,7 @@ holds-all name Bad rows all k h = none_of Bad rows all (SomeOf_like (λ r. Bad r
 
 -- ---- snapshots
 
-either_append : {X : Type 0} (P : X → Type 0) (xs ys : List X) → SomeOf P (xs ++ ys) → SomeOf P xs ⊎ SomeOf P ys
+pub either_append : {X : Type 0} (P : X → Type 0) (xs ys : List X) → SomeOf P (xs ++ ys) → SomeOf P xs ⊎ SomeOf P ys
 either_append P [] ys h = inr h
 either_append P (x ∷ xs) ys (inl h) = inl (inl h)
 either_append P (x ∷ xs) ys (inr h) = ⊎_elim (λ a. inl (inr a)) (λ b. inr b) (either_append P xs ys h)

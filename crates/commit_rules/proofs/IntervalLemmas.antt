@@ -127,8 +127,7 @@ apart-overlaps rows apart c there some =
     let s = q.is.3.0 in
     apart s (of_column c)
     (some_visible column_validity s (λ r. HasAlike AreOneColumn column_key (visible_at column_validity s rows) r × (of_column r ≡ of_column c)) rows
-    (in_some (λ r. (is_visible column_validity s r ≡ true) × (HasAlike AreOneColumn column_key (visible_at column_validity s rows) (column_validity.with_end None r) × (of_column (column_validity.with_end None r) ≡ of_column c))) c rows there
-    (
+    (in_some (λ r. (is_visible column_validity s r ≡ true) × (HasAlike AreOneColumn column_key (visible_at column_validity s rows) (column_validity.with_end None r) × (of_column (column_validity.with_end None r) ≡ of_column c))) c rows there (
       q.is.3.2,
       (
         some_visible column_validity s (λ x. IsBelow column_key x (column_validity.with_end None c) × AreOneColumn x (column_validity.with_end None c)) rows

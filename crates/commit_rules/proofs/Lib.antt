@@ -5,6 +5,7 @@ pub mod HistoryLemmas
 pub mod IntervalLemmas
 pub mod CounterLemmas
 pub mod StatsLemmas
+pub mod NextLemmas
 pub mod SchemaLemmas
 pub mod FileLemmas
 pub mod PathLemmas

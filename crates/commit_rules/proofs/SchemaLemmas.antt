@@ -1,18 +1,18 @@
 -- The rules about schemas, tables and columns after a commit.
-use Rattle.std.proofs.Common.{◌≡◌, ℕ, ◌≤◌, inl, inr, ⊎_elim, true, List, [], ◌∷◌, sym, subst, Option, Some, None}
+use Rattle.std.proofs.Common.{◌≡◌, ℕ, ◌≤◌, inl, inr, ⊎_elim, true, List, [], ◌∷◌, sym, subst, Option, Some, None, ◌<◌, ◌⊎◌}
 use Rattle.std.specs.Option.{option_map}
 use Rattle.cat_tables.specs.Table.{row_of}
 use Rattle.cat_rows.specs.Batches.{holds}
 use Rattle.cat_rows.specs.Keys.{column_key, schema_key}
 use Rattle.cat_rows.specs.Parts.{Endings, Parts}
-use Rattle.cat_rows.specs.Seen.{seen_at}
+use Rattle.cat_rows.specs.Seen.{seen_at, Seen}
 use Rattle.cat_rows.specs.Tables.{Tables}
 use Rattle.cat_rows.specs.Validities.{column_laws, column_validity, table_validity}
 use Rattle.cat_rows.specs.declared.batch.Key.TheVariants as key
 use Rattle.cat_rows.specs.declared.history.SnapshotRow.{SnapshotRow}
 use Rattle.cat_rows.specs.declared.schemas.ColumnRow.{ColumnRow}
 use Rattle.cat_rows.specs.declared.schemas.TableRow.{TableRow}
-use Rattle.cat_rules.specs.ColumnRule.{AreColumnsBad, BeginsAt, IsColumnWrong, LacksInitial}
+use Rattle.cat_rules.specs.ColumnRule.{AreColumnsBad, BeginsAt, IsColumnWrong, LacksInitial, IsColumnless, IsCrowdedColumn, IsColumnBad}
 use Rattle.cat_rules.specs.EachKept.{SeesTable, missing_or_own}
 use Rattle.cat_rules.specs.First.{Holds}
 use Rattle.cat_rules.specs.Kept.{IsKept, kept_of}
@@ -23,12 +23,20 @@ use Rattle.cat_rules.specs.TableRule.{IsTableBad, schema_id_of, schema_of}
 use Rattle.cat_rules.proofs.DatedLemmas.{all_fine}
 use Rattle.cat_rules.proofs.FirstLemmas.{all_like}
 use Rattle.cat_rules.proofs.LawLemmas.{fields-stay, names-alike}
-use Rattle.commit_rules.specs.Lawful.{AreColumnsWrong, IsTableWrong}
+use Rattle.cat_rules.specs.CounterRule.{is_not_past}
+use Rattle.commit_rules.specs.Lawful.{IsTableWrong, seen_then}
 use Rattle.commit_rules.specs.Laws.{RuleStays}
 use Rattle.commit_rules.proofs.CoreLemmas.{IsCommit, after, after-commit, first_after, rule_stays}
 use Rattle.commit_rules.proofs.HistoryLemmas.{holds-all}
-use Rattle.commit_rules.proofs.StatsLemmas.{grow, seen_there, table_below, table_still}
-use Rattle.commit_rules.proofs.TableLemmas.{FindsNew, row_of-ended, row_of-put_all}
+use Rattle.commit_rules.proofs.CounterLemmas.{counted_before}
+use Rattle.commit_rules.proofs.NextLemmas.{all_next, all_visible, at_head, sees_still}
+use Rattle.commit_rules.proofs.StatsLemmas.{below, grow, seen_there, table_below, table_still}
+use Rattle.commit_rules.proofs.TableLemmas.{FindsNew, row_of-ended, row_of-put_all, In, all_by, all_in}
+use Rattle.std.specs.List.{AllByRecursion}
+use Rattle.cat_rows.specs.declared.batch.Key.{Key}
+
+abbrev AreColumnsWrong : Tables → Seen → Key → Type 0
+AreColumnsWrong t seen k = IsColumnless seen k ⊎ (IsCrowdedColumn seen k ⊎ IsColumnBad t seen k)
 
 -- what doesn't speak of the end of the row that is found
 pub has_open : {R : Type 0} (open_row : R → R) (P : R → Type 0) → ((r : R) → P r → P (open_row r)) → (o : Option R) → HasRow o P → HasRow (option_map open_row o) P
@@ -46,6 +54,12 @@ has_more P Q f (Some r) h = f r h
 module _ (t : Tables) (head : SnapshotRow) (p : Parts) (endings : Endings) (c : IsCommit t head p endings) where
   abbrev u : Tables
   u = after t head p endings c
+
+  abbrev before : Seen
+  before = seen_at head.snapshot_id t
+
+  abbrev now : Seen
+  now = seen_then t head p endings
 
   schemas_after : Holds (IsSchemaNameBad u)
   schemas_after = rule_stays t head p endings c (λ _. IsSchemaNameUsed) (λ s kept h. h) c.sane.1.1.1.0 c.lawful.schemas
@@ -111,8 +125,30 @@ module _ (t : Tables) (head : SnapshotRow) (p : Parts) (endings : Endings) (c : 
       Wrong : Tables → ColumnRow → Type 0
       Wrong tables r = SeesTable (seen_at s t) r.table_id × IsColumnWrong tables r
 
+  -- a column that was seen is right with its table, if it's still seen
+  column_seen : (r : ColumnRow) → In r before.column → SeesTable now r.table_id × IsColumnWrong u r → ⊥
+  column_seen r there bad =
+      let low = all_in (λ (q : ColumnRow). q.table_id < head.next_catalog_id) r before.column (all_visible column_validity (λ (q : ColumnRow). q.table_id < head.next_catalog_id) (λ q h. h) head.snapshot_id t.column columns_below) there in
+      let sees = sees_still t head p endings c r.table_id low bad.0 in
+      column_still r (seen_there t head p endings c head.snapshot_id r.table_id sees)
+      (λ wrong. all_in (λ (q : ColumnRow). SeesTable before q.table_id × IsColumnWrong t q → ⊥) r before.column
+      (all_fine of_column (λ (q : ColumnRow). SeesTable before q.table_id × IsColumnWrong t q) before.column (λ k x. at_head t head p endings c AreColumnsWrong c.sane.1.1.1.1.1.0 k (inr (inr x)))) there (sees, wrong)) bad.1
+    where
+      columns_below : AllByRecursion (λ (q : ColumnRow). q.table_id < head.next_catalog_id) t.column
+      columns_below =
+          all_like _ (λ (q : ColumnRow). q.table_id < head.next_catalog_id) (λ q fine. below head.next_catalog_id q.table_id fine) t.column
+          (all_fine of_column (λ (q : ColumnRow). is_not_past head.next_catalog_id q.table_id ≡ true) t.column (λ k h. counted_before t head p endings c k (inr (inr (inr (inl h))))))
+
+  columns_now : Holds (AreColumnsWrong u now)
+  columns_now k (inl bad) = c.lawful.columns.some k bad
+  columns_now k (inr (inl bad)) = c.lawful.columns.differ k bad
+  columns_now k (inr (inr bad)) =
+      holds-all of_column (λ (r : ColumnRow). SeesTable now r.table_id × IsColumnWrong u r) now.column
+      (all_next (λ (r : ColumnRow). SeesTable now r.table_id × IsColumnWrong u r → ⊥) _ before.column p.column (all_by (λ (r : ColumnRow). SeesTable now r.table_id × IsColumnWrong u r → ⊥) before.column column_seen)
+      (all_like (λ (r : ColumnRow). IsColumnWrong u r → ⊥) (λ (r : ColumnRow). SeesTable now r.table_id × IsColumnWrong u r → ⊥) (λ r fine x. fine x.1) p.column c.lawful.columns.new)) k bad
+
   columns_after : Holds (AreColumnsBad u)
-  columns_after = rule_stays t head p endings c AreColumnsWrong columns_still c.sane.1.1.1.1.1.0 c.lawful.columns
+  columns_after = rule_stays t head p endings c AreColumnsWrong columns_still c.sane.1.1.1.1.1.0 columns_now
 
 pub schemas-stay : RuleStays IsSchemaNameBad
 schemas-stay = after-commit (λ (u : Tables). Holds (IsSchemaNameBad u)) schemas_after

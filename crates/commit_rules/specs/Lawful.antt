@@ -1,9 +1,9 @@
 -- What the twelve rules of a sane catalogue ask of a commit: of its new rows, and of what its snapshot sees.
-use Rattle.std.specs.Prelude.{◌≡◌, ◌≢◌, ◌⊎◌, ◌≤◌, ◌<◌, ℕ, false, List, ◌++◌, map, length, Option, Some, None}
+use Rattle.std.specs.Prelude.{◌≡◌, ◌≢◌, ◌⊎◌, ◌≤◌, ◌<◌, ℕ, Bool, false, List, ◌++◌, map, length, Option, Some, None, ◌∷◌, []}
 use Rattle.std.specs.List.{AllByRecursion}
-use Rattle.cat_tables.specs.Table.{RisesByKey}
+use Rattle.cat_tables.specs.Table.{RisesByKey, row_of}
 use Rattle.cat_rows.specs.Batches.{AllDiffer}
-use Rattle.cat_rows.specs.Keys.{column_key, snapshot_key}
+use Rattle.cat_rows.specs.Keys.{column_key, data_file_key, snapshot_key}
 use Rattle.cat_rows.specs.Parts.{Endings, Parts, seen_next, with_parts}
 use Rattle.cat_rows.specs.Seen.{Seen, seen_at}
 use Rattle.cat_rows.specs.Tables.{Tables, no_rows}
@@ -16,20 +16,23 @@ use Rattle.cat_rows.specs.declared.files.DeleteFileRow.{DeleteFileRow}
 use Rattle.cat_rows.specs.declared.files.FileColumnStatsRow.{FileColumnStatsRow}
 use Rattle.cat_rows.specs.declared.files.TableStatsRow.{TableStatsRow}
 use Rattle.cat_rows.specs.declared.files.ScheduledFileRow.{ScheduledFileRow}
-use Rattle.cat_rules.specs.ColumnRule.{IsColumnBad, IsColumnless, IsCrowdedColumn}
+use Rattle.cat_rows.specs.declared.inlined.InlinedRow.{InlinedRow}
+use Rattle.inline_rows.specs.Laws.{Spells}
+use Rattle.lake_types.specs.declared.value.Value.{Value}
+use Rattle.cat_rules.specs.ColumnRule.{IsColumnWrong, IsColumnless, IsCrowdedColumn}
 use Rattle.cat_rules.specs.ColumnStatsRule.{AreStatsWrong}
 use Rattle.cat_rules.specs.CounterRule.{IsPastCounters}
 use Rattle.cat_rules.specs.DataFileRule.{IsDataFileUnmatched, has_wrong_numbers}
-use Rattle.cat_rules.specs.DeleteFileRule.{IsDeleteFileDiffering, IsDeleteFileUnmatched, IsSecondDeleteFile}
+use Rattle.cat_rules.specs.DeleteFileRule.{IsDeleteFileUnmatched, IsSecondDeleteFile, differs_from}
 use Rattle.cat_rules.specs.EachKept.{NamesAlike}
 use Rattle.cat_rules.specs.First.{Holds}
 use Rattle.cat_rules.specs.HistoryRule.{IsRead, name_of_schema}
-use Rattle.cat_rules.specs.InlinedRule.{IsInlinedBad, IsPastThousand}
+use Rattle.cat_rules.specs.InlinedRule.{HasUnreadableCells, HasWrongRowId, IsMisfitIn, IsPastThousand}
 use Rattle.cat_rules.specs.Kept.{newest}
 use Rattle.cat_rules.specs.Lookups.{HasRow, newest_row, stats_of_table}
-use Rattle.cat_rules.specs.Places.{of_column, of_data_file}
+use Rattle.cat_rules.specs.Places.{of_column}
 use Rattle.cat_rules.specs.Readable.{IsReadable}
-use Rattle.cat_rules.specs.Rows.{NamesIf, SomeOf}
+use Rattle.cat_rules.specs.Rows.{SomeOf}
 use Rattle.cat_rules.specs.SchemaRule.{IsSchemaNameUsed}
 use Rattle.cat_rules.specs.TableRule.{IsTableNameUsed, IsTableUnmatched}
 use Rattle.cat_rules.specs.TableStatsRule.{has_large_counter}
@@ -75,22 +78,44 @@ pub record AreCounted (head : SnapshotRow) (p : Parts) : Type 0 where
   pub tables : AllByRecursion (λ (r : TableRow). head.next_catalog_id ≤ r.table_id) p.table
   pub data_files : AllByRecursion (λ (r : DataFileRow). head.next_file_id ≤ r.data_file_id) p.data_file
 
--- ---- what the new snapshot sees: the rules 5, 6, 7, 8 and 10
+-- ---- new rows by themselves, and what the new snapshot sees: the rules 5, 6, 7, 8 and 10
 
+-- a table has a schema that isn't seen with it, or the name of an earlier one
 abbrev pub IsTableWrong : Tables → Seen → Key → Type 0
 IsTableWrong t seen k = IsTableUnmatched t seen k ⊎ IsTableNameUsed seen k
 
-abbrev pub AreColumnsWrong : Tables → Seen → Key → Type 0
-AreColumnsWrong t seen k = IsColumnless seen k ⊎ (IsCrowdedColumn seen k ⊎ IsColumnBad t seen k)
+-- each table that is seen has 1 to 100 columns, with different orders and names, and new ones are right by themselves
+pub record AreColumnsRight (t : Tables) (p : Parts) (seen : Seen) : Type 0 where
+  pub some : Holds (IsColumnless seen)
+  pub differ : Holds (IsCrowdedColumn seen)
+  pub new : AllByRecursion (λ (c : ColumnRow). IsColumnWrong (with_parts p t) c → ⊥) p.column
 
-abbrev pub IsFileWrong : Tables → Seen → Key → Type 0
-IsFileWrong t seen k = IsDataFileUnmatched t seen k ⊎ NamesIf of_data_file (has_wrong_numbers t) seen.data_file k
+-- each data file that is seen has its table, and new ones have right numbers
+pub record AreFilesRight (t : Tables) (p : Parts) (seen : Seen) : Type 0 where
+  pub tables : Holds (IsDataFileUnmatched (with_parts p t) seen)
+  pub new : AllByRecursion (λ (r : DataFileRow). has_wrong_numbers (with_parts p t) r ≡ false) p.data_file
 
-abbrev pub IsDeleteWrong : Tables → Seen → Key → Type 0
-IsDeleteWrong t seen k = (IsDeleteFileUnmatched t seen k ⊎ IsDeleteFileDiffering seen k) ⊎ IsSecondDeleteFile seen k
+-- it doesn't go with the data file that is seen with it
+abbrev pub is_unlike : Seen → DeleteFileRow → Bool
+is_unlike seen r = differs_from (row_of data_file_key (r.data_file_id ∷ []) seen.data_file) r
 
-abbrev pub AreInlinedWrong : Tables → Seen → Key → Type 0
-AreInlinedWrong t seen k = IsInlinedBad t seen k ⊎ IsPastThousand seen k
+-- each delete file that is seen has its data file, which has no other, and new ones go with it
+pub record AreDeletesRight (t : Tables) (p : Parts) (seen : Seen) : Type 0 where
+  pub files : Holds (IsDeleteFileUnmatched (with_parts p t) seen)
+  pub single : Holds (IsSecondDeleteFile seen)
+  pub new : AllByRecursion (λ (r : DeleteFileRow). is_unlike seen r ≡ false) p.delete_file
+
+-- one of these columns can't hold its cell of the row
+abbrev pub Misfits : List ColumnRow → InlinedRow → Type 0
+Misfits columns r = (cells : List (ℕ × Value)) × Spells r.cells cells × SomeOf (λ cell. SomeOf (IsMisfitIn r cell) columns) cells
+
+-- New rows are right by themselves, and the columns that are seen can hold their cells; new columns can hold those of all rows
+-- that are seen; and at most 1,000 of a table share a begin.
+pub record AreInlinedRight (t : Tables) (p : Parts) (seen : Seen) : Type 0 where
+  pub new : AllByRecursion (λ (r : InlinedRow). HasUnreadableCells (with_parts p t) r ⊎ HasWrongRowId (with_parts p t) r → ⊥) p.inlined_row
+  pub held : AllByRecursion (λ (r : InlinedRow). Misfits seen.column r → ⊥) p.inlined_row
+  pub columns : AllByRecursion (λ (r : InlinedRow). Misfits p.column r → ⊥) seen.inlined_row
+  pub few : Holds (IsPastThousand seen)
 
 -- ---- paths, the other part of rule 7
 
@@ -150,11 +175,11 @@ pub record IsLawful (t : Tables) (head : SnapshotRow) (p : Parts) (endings : End
   pub intervals : Holds (IsColumnTwice (seen_then t head p endings))
   pub schemas : Holds (IsSchemaNameUsed (seen_then t head p endings))
   pub tables : Holds (IsTableWrong (with_parts p t) (seen_then t head p endings))
-  pub columns : Holds (AreColumnsWrong (with_parts p t) (seen_then t head p endings))
-  pub data_files : Holds (IsFileWrong (with_parts p t) (seen_then t head p endings))
+  pub columns : AreColumnsRight t p (seen_then t head p endings)
+  pub data_files : AreFilesRight t p (seen_then t head p endings)
   pub paths : ArePathsNew t p
-  pub delete_files : Holds (IsDeleteWrong (with_parts p t) (seen_then t head p endings))
+  pub delete_files : AreDeletesRight t p (seen_then t head p endings)
   pub column_stats : AreStatsRight t p
-  pub inlined_rows : Holds (AreInlinedWrong (with_parts p t) (seen_then t head p endings))
+  pub inlined_rows : AreInlinedRight t p (seen_then t head p endings)
   pub table_stats : AreStated t p
   pub counters : AreCounted head p
