@@ -1,6 +1,8 @@
 -- The rule about the statistics of columns, after a commit.
 use Rattle.std.proofs.Common.{◌≡◌, ℕ, ◌<◌, ◌≤◌, ◌⊎◌, inl, inr, ⊎_elim, Bool, true, false, cond, List, [], ◌∷◌, ◌++◌, map, filter, refl, sym, ap, ◌∙◌, subst, arith, Option, Some, None}
 use Rattle.std.specs.Prelude.{is_none}
+use Rattle.std.proofs.lemmas.List.{append-nil}
+use Rattle.std.proofs.lemmas.List.Elements.{filter-append}
 use Rattle.std.specs.List.{AllByRecursion}
 use Rattle.std.specs.Option.{option_map}
 use Rattle.cat_tables.specs.Table.{ArePast, has_key}
@@ -49,14 +51,6 @@ last_append [] y ys = refl
 last_append (x ∷ []) y ys = refl
 last_append (x ∷ z ∷ xs) y ys = last_append (z ∷ xs) y ys
 
-filter_append : {X : Type 0} (q : X → Bool) (xs ys : List X) → filter q (xs ++ ys) ≡ filter q xs ++ filter q ys
-filter_append q [] ys = refl
-filter_append q (x ∷ xs) ys = elim (q x) as (λ b. cond b (x ∷ filter q (xs ++ ys)) (filter q (xs ++ ys)) ≡ cond b (x ∷ filter q xs) (filter q xs) ++ filter q ys) [ true ↦ ap (λ l. x ∷ l) (filter_append q xs ys) | false ↦ filter_append q xs ys ]
-
-append_nothing : {X : Type 0} (xs : List X) → xs ++ [] ≡ xs
-append_nothing [] = refl
-append_nothing (x ∷ xs) = ap (λ l. x ∷ l) (append_nothing xs)
-
 -- the last of those that pass a test is one of them
 record IsLast {X : Type 0} (q : X → Bool) (xs : List X) (o : Option X) : Type 0 where
   item : X
@@ -85,14 +79,14 @@ last_passes {X} q (x ∷ xs) = go (q x) refl (last_passes q xs)
     go false e (inr m) = inr (more (last (filter q xs)) m)
 
 last_either : {X : Type 0} (q : X → Bool) (xs ys : List X) → IsLast q ys (last (filter q (xs ++ ys))) ⊎ (last (filter q (xs ++ ys)) ≡ last (filter q xs))
-last_either {X} q xs ys = ⊎_elim (λ none. inr (ap last (filter_append q xs ys ∙ ap (λ l. filter q xs ++ l) none ∙ append_nothing (filter q xs)))) (λ m. inl (found_last (filter q ys) refl m)) (last_passes q ys)
+last_either {X} q xs ys = ⊎_elim (λ none. inr (ap last (filter-append q xs ys ∙ ap (λ l. filter q xs ++ l) none ∙ append-nil (filter q xs)))) (λ m. inl (found_last (filter q ys) refl m)) (last_passes q ys)
   where
     found_last : (l : List X) → filter q ys ≡ l → IsLast q ys (last (filter q ys)) → IsLast q ys (last (filter q (xs ++ ys)))
     found_last [] e m = absurd (none (sym (ap last e) ∙ m.is))
       where
         none : {y : X} → None ≡ Some y → ⊥
         none e = cc
-    found_last (y ∷ l) e m = record { item = m.item; there = m.there; passes = m.passes; is = ap last (filter_append q xs ys ∙ ap (λ k. filter q xs ++ k) e) ∙ last_append (filter q xs) y l ∙ sym (ap last e) ∙ m.is }
+    found_last (y ∷ l) e m = record { item = m.item; there = m.there; passes = m.passes; is = ap last (filter-append q xs ys ∙ ap (λ k. filter q xs ++ k) e) ∙ last_append (filter q xs) y l ∙ sym (ap last e) ∙ m.is }
 
 -- a text that the newer type can't read the older one can't
 less_readable : (old_type new_type : List ℕ) → ((text : List ℕ) → IsReadable old_type text → IsReadable new_type text) → (bound : Option (List ℕ)) → IsUnreadable new_type bound → IsUnreadable old_type bound
