@@ -65,7 +65,7 @@ pub first_low : (rs : List SnapshotRow) (h : SnapshotRow) → RisesByKey snapsho
 first_low [] h up e = absurd cc
 first_low (r ∷ rs) h up e = (newest_low (r ∷ rs) h up e).0
 
-lower_key : (a b : ℕ) → a < b → is_lt (key_cmp (a ∷ []) (b ∷ [])) ≡ true
+pub lower_key : (a b : ℕ) → a < b → is_lt (key_cmp (a ∷ []) (b ∷ [])) ≡ true
 lower_key a b lt = grind (arith, key_cmp)
 
 -- ---- the premises together

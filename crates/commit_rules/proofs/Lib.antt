@@ -12,3 +12,5 @@ pub mod PathLemmas
 pub mod ColumnStatsLemmas
 pub mod InlinedLemmas
 pub mod WholeLemmas
+pub mod ExampleLemmas
+pub mod HeadLemmas

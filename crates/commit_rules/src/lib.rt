@@ -14,7 +14,8 @@ ghost use Rattle.cat_rules.specs.LayoutRule.{IsLayoutBad};
 ghost use Rattle.cat_rules.specs.SchemaRule.{IsSchemaNameBad};
 ghost use Rattle.cat_rules.specs.TableRule.{IsTableBad};
 ghost use Rattle.cat_rules.specs.TableStatsRule.{IsStatsBad};
-ghost use Rattle.commit_rules.specs.Laws.{RuleStays, RulesStay};
+ghost use Rattle.commit_rules.specs.Example.{OneTableFits};
+ghost use Rattle.commit_rules.specs.Laws.{HeadMoves, RuleStays, RulesStay, SaneIsSettled};
 
 /// The rules about a catalogue's history: its layout (1), snapshots and changes texts (2), validity intervals (3) and the
 /// counters of the newest snapshot (12).
@@ -49,4 +50,16 @@ pub fn inlined_rule_stays()
 /// All twelve, where the rows before broke none.
 pub fn rules_stay()
     ensures { RulesStay }
+{}
+
+/// What a commit rests on: where no rule is broken, no row begins or ends past the head, and its snapshot is the next
+/// head.
+pub fn heads_move()
+    ensures settled { SaneIsSettled }
+    ensures next { HeadMoves }
+{}
+
+/// What the law asks is met: by the smallest commit that makes a table with a file.
+pub fn one_table_fits()
+    ensures { OneTableFits }
 {}
