@@ -58,26 +58,10 @@ module _ {R : Type 0} (key : R → List ℕ) where
       go true more (inr q) = ⊎_elim (λ x. inl x) (λ x. inr (inr x)) (more q)
       go false more q = q
 
-  pub put-some : (P : R → Type 0) (new : R) (rs : List R) → P new ⊎ SomeOf P rs → SomeOf P (put key new rs)
-  put-some P new [] h = h
-  put-some P new (r ∷ rs) h = go (is_lt (key_cmp (key r) (key new))) (put-some P new rs) h
-    where
-      go : (b : Bool) → (P new ⊎ SomeOf P rs → SomeOf P (put key new rs)) → P new ⊎ (P r ⊎ SomeOf P rs) → SomeOf P (cond b (r ∷ put key new rs) (new ∷ r ∷ rs))
-      go true more (inl q) = inr (more (inl q))
-      go true more (inr (inl q)) = inl q
-      go true more (inr (inr q)) = inr (more (inr q))
-      go false more q = q
-
   pub some-put_all : (P : R → Type 0) (news rs : List R) → SomeOf P (put_all key news rs) → SomeOf P news ⊎ SomeOf P rs
   some-put_all P [] rs h = inr h
   some-put_all P (new ∷ news) rs h =
       ⊎_elim (λ x. inl (inr x)) (λ x. ⊎_elim (λ y. inl (inl y)) (λ y. inr y) (some-put P new rs x)) (some-put_all P news (put key new rs) h)
-
-  pub put_all-some : (P : R → Type 0) (news rs : List R) → SomeOf P news ⊎ SomeOf P rs → SomeOf P (put_all key news rs)
-  put_all-some P [] rs h = ⊎_elim (λ x. absurd x) (λ x. x) h
-  put_all-some P (new ∷ news) rs (inl (inl x)) = put_all-some P news (put key new rs) (inr (put-some P new rs (inl x)))
-  put_all-some P (new ∷ news) rs (inl (inr x)) = put_all-some P news (put key new rs) (inl x)
-  put_all-some P (new ∷ news) rs (inr x) = put_all-some P news (put key new rs) (inr (put-some P new rs (inr x)))
 
   -- rows that don't pass a test
   pub filter-put_all : (q : R → Bool) (news rs : List R) → AllByRecursion (λ r. q r ≡ false) news → filter q (put_all key news rs) ≡ filter q rs
@@ -185,15 +169,6 @@ module _ {R : Type 0} (key : R → List ℕ) (v : Validity R) where
           one : (b : Bool) → P (cond b (ended_at v m q) q) → P q
           one true x = keeps q x
           one false x = x
-      go (q ∷ qs) (inr k) = inr (go qs k)
-
-  pub ended-some : (P : R → Type 0) (m : ℕ) → ((r : R) → P r → P (ended_at v m r)) → (ends rs : List R) → SomeOf P rs → SomeOf P (all_ended v key (ends_at key m ends) rs)
-  ended-some P m keeps [] rs h = h
-  ended-some P m keeps (e ∷ ends) rs h = ended-some P m keeps ends (edited key (ended_at v m) (key e) rs) (go rs h)
-    where
-      go : (qs : List R) → SomeOf P qs → SomeOf P (edited key (ended_at v m) (key e) qs)
-      go [] k = k
-      go (q ∷ qs) (inl k) = inl (elim (has_key key (key e) q) as (λ b. P (cond b (ended_at v m q) q)) [ true ↦ keeps q k | false ↦ k ])
       go (q ∷ qs) (inr k) = inr (go qs k)
 
   -- what doesn't speak of ends
