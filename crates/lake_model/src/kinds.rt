@@ -64,7 +64,8 @@ fn is_drop_of_table(at: Ref, change: &Change) -> bool
     }
 }
 
-fn drops_table(own: &[Change], at: Ref) -> bool
+/// Whether a list drops a table.
+pub fn drops_table(own: &[Change], at: Ref) -> bool
     ensures { result ≡ spec.drops_table own.now at }
 {
     own.iter().any(|change| is_drop_of_table(at, change))
@@ -79,7 +80,8 @@ fn is_drop_of_schema(at: Ref, change: &Change) -> bool
     }
 }
 
-fn drops_schema(own: &[Change], at: Ref) -> bool
+/// Whether a list drops a schema.
+pub fn drops_schema(own: &[Change], at: Ref) -> bool
     ensures { result ≡ spec.drops_schema own.now at }
 {
     own.iter().any(|change| is_drop_of_schema(at, change))

@@ -13,4 +13,4 @@ pub mod laws;
 pub use answer::{Answer, Counter, Reply, WordsList};
 pub use call::{Call, CallReply, Entry, Loss, Open, SnapRow, SnapRows};
 pub use change::{Change, ChangeList, Ref, RowRef, RowRefs, Txn};
-pub use kinds::{is_ref, kinds_of};
+pub use kinds::{drops_schema, drops_table, is_ref, kinds_of};
