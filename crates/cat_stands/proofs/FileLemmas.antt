@@ -1,14 +1,11 @@
 -- Over more files the files of a content are as they were, and so are the states of its versions.
-use Rattle.std.proofs.Common.{◌≡◌, ◌==◌, ℕ, Bool, true, false, cond, List, [], ◌∷◌, ◌++◌, filter, map, Option, Some, None, IfSome, option_map, refl, sym, ap, ap₂, ◌∙◌, subst}
-use Rattle.std.specs.Prelude.{is_some, option_and_then, unwrap_or}
-use Rattle.std.specs.List.{AllByRecursion, AllZip, flat_map}
+use Rattle.std.proofs.Common.{◌≡◌, ◌==◌, ℕ, Bool, true, false, cond, List, [], ◌∷◌, filter, Some, None, IfSome, option_map, sym, ap, ◌∙◌, subst}
+use Rattle.std.specs.Prelude.{is_some}
+use Rattle.std.specs.List.{AllByRecursion, AllZip}
 use Rattle.lake_types.specs.declared.sheet.Sheet.{Sheet}
-use Rattle.lake_types.specs.declared.value.Column.{Column}
-use Rattle.lake_types.specs.declared.value.Row.{Row}
 use Rattle.lake_model.proofs.TableLemmas.{all-mapped}
 use Rattle.lake_model.specs.Core.{Version}
 use Rattle.lake_model.specs.State.{State}
-use Rattle.sheet_rows.specs.Live.{laid_rows, left_from, places_in}
 use Rattle.cat_rows.specs.Seen.{Seen, seen_at}
 use Rattle.cat_rows.specs.Tables.{Tables}
 use Rattle.cat_rows.specs.declared.files.DataFileRow.{DataFileRow}
@@ -17,8 +14,9 @@ use Rattle.cat_rows.specs.declared.history.SnapshotRow.{SnapshotRow}
 use Rattle.cat_rows.specs.declared.schemas.TableRow.{TableRow}
 use Rattle.cat_rows.specs.Validities.{data_file_validity, delete_file_validity}
 use Rattle.cat_tables.specs.Validity.{Validity, is_visible, visible_at}
-use Rattle.cat_view.specs.Files.{Extends, Filed, Files, sheet_at}
-use Rattle.cat_view.specs.Named.{NamedDeletes, NamedFile, NamedTable, deleted, live_rows, ordered, rows_in, state_of, table_of}
+use Rattle.cat_view.proofs.MoreLemmas.{HasSame, HasSameFiles, IsSame, same_tables}
+use Rattle.cat_view.specs.Files.{Extends, Filed, Files}
+use Rattle.cat_view.specs.Named.{NamedDeletes, NamedFile, NamedTable, state_of}
 use Rattle.cat_view.specs.Sight.{IsTableAt, data_rows, delete_row, deletes_of, file_of}
 use Rattle.cat_stands.specs.FileFacts.{IsDataFile, IsDeleteFile, IsThere}
 use Rattle.cat_stands.specs.Laws.{MoreFilesStand}
@@ -37,72 +35,38 @@ pub all-seen : {R : Type 0} (v : Validity R) (P : R → Type 0) (s : ℕ) (rows 
 all-seen v P s rows plain h = all-mapped P P (v.with_end None) plain (filter (is_visible v s) rows) (all-passing P (is_visible v s) rows h)
 
 module _ (files more : Files) (extends : Extends files more) where
-  abbrev pub IsSame : List ℕ → Type 0
-  IsSame name = more name ≡ files name
-
-  same : (name : List ℕ) (filed : Filed) → files name ≡ Some filed → IsSame name
+  same : (name : List ℕ) (filed : Filed) → files name ≡ Some filed → IsSame files more name
   same name filed there = extends name (ap is_some there)
 
   still_there : (name : List ℕ) (size : ℕ) (sheet : Sheet) → IsThere files name size sheet → IsThere more name size sheet
   still_there name size sheet h = record { filed = h.filed; there = same name h.filed h.there ∙ h.there; size_is = h.size_is; sheet_is = h.sheet_is }
 
-  -- ---- rows of files
-
-  same_sheet : (name : List ℕ) → IsSame name → sheet_at more name ≡ sheet_at files name
-  same_sheet name e = ap (λ (o : Option Filed). option_and_then (λ (f : Filed). f.sheet) o) e
-
-  abbrev pub HasSame : NamedFile → Type 0
-  HasSame f = IsSame f.name × IfSome f.deletes (λ (d : NamedDeletes). IsSame d.name)
-
-  same_deleted : (d : Option NamedDeletes) → IfSome d (λ (x : NamedDeletes). IsSame x.name) → deleted more d ≡ deleted files d
-  same_deleted None h = refl
-  same_deleted (Some x) h = ap (λ (o : Option Sheet). unwrap_or (option_map places_in o) []) (same_sheet x.name h)
-
-  same_rows : (columns : List Column) (f : NamedFile) → IsSame f.name → rows_in more columns f ≡ rows_in files columns f
-  same_rows columns f h = ap (λ (o : Option Sheet). unwrap_or (option_and_then (laid_rows f.first_row columns) o) []) (same_sheet f.name h)
-
-  same_live : (columns : List Column) (fs : List NamedFile) → AllByRecursion HasSame fs → flat_map (live_rows more columns) fs ≡ flat_map (live_rows files columns) fs
-  same_live columns [] h = refl
-  same_live columns (f ∷ fs) h =
-      let one : live_rows more columns f ≡ live_rows files columns f = ap₂ (λ (gone : List ℕ) (rows : List Row). left_from 0 gone rows) (same_deleted f.deletes h.0.1) (same_rows columns f h.0.0) in
-      ap₂ (λ (a b : List Row). a ++ b) one (same_live columns fs h.1)
-
-  abbrev pub HasSameFiles : NamedTable → Type 0
-  HasSameFiles x = AllByRecursion HasSame x.files
-
-  same_table : (x : NamedTable) → HasSameFiles x → table_of more x ≡ table_of files x
-  same_table x h = ap (λ (rows : List Row). record (table_of files x) { rows = ordered (λ (r : Row). r.id) (rows ++ x.inlined) }) (same_live x.columns x.files h)
-
-  same_tables : (xs : List NamedTable) → AllByRecursion HasSameFiles xs → map (table_of more) xs ≡ map (table_of files) xs
-  same_tables [] h = refl
-  same_tables (x ∷ xs) h = ap₂ (λ a b. a ∷ b) (same_table x h.0) (same_tables xs h.1)
-
   -- ---- names of a version's files
 
   abbrev pub HasSameData : DataFileRow → Type 0
-  HasSameData f = IsSame f.path
+  HasSameData f = IsSame files more f.path
 
   abbrev pub HasSameDelete : DeleteFileRow → Type 0
-  HasSameDelete d = IsSame d.path
+  HasSameDelete d = IsSame files more d.path
 
-  same_delete : (id : ℕ) (ds : List DeleteFileRow) → AllByRecursion HasSameDelete ds → IfSome (option_map deletes_of (delete_row ds id)) (λ (d : NamedDeletes). IsSame d.name)
+  same_delete : (id : ℕ) (ds : List DeleteFileRow) → AllByRecursion HasSameDelete ds → IfSome (option_map deletes_of (delete_row ds id)) (λ (d : NamedDeletes). IsSame files more d.name)
   same_delete id [] h = tt
   same_delete id (d ∷ ds) h = go (d.data_file_id == id) (same_delete id ds h.1)
     where
-      go : (b : Bool) → IfSome (option_map deletes_of (delete_row ds id)) (λ (x : NamedDeletes). IsSame x.name)
-          → IfSome (option_map deletes_of (cond b (Some d) (delete_row ds id))) (λ (x : NamedDeletes). IsSame x.name)
+      go : (b : Bool) → IfSome (option_map deletes_of (delete_row ds id)) (λ (x : NamedDeletes). IsSame files more x.name)
+          → IfSome (option_map deletes_of (cond b (Some d) (delete_row ds id))) (λ (x : NamedDeletes). IsSame files more x.name)
       go true rest = h.0
       go false rest = rest
 
   module _ (seen : Seen) (named : AllByRecursion HasSameData seen.data_file) (deletes : AllByRecursion HasSameDelete seen.delete_file) where
-    table_files : (r : TableRow) (x : NamedTable) → IsTableAt seen r x → HasSameFiles x
+    table_files : (r : TableRow) (x : NamedTable) → IsTableAt seen r x → HasSameFiles files more x
     table_files r x h =
         let rows = data_rows r.table_id seen.data_file in
         let all = all-passing HasSameData (λ (f : DataFileRow). f.table_id == r.table_id) seen.data_file named in
-        let files_of = all-mapped HasSameData HasSame (file_of seen.delete_file) (λ (f : DataFileRow) e. (e, same_delete f.data_file_id seen.delete_file deletes)) rows all in
-        subst (λ (fs : List NamedFile). AllByRecursion HasSame fs) (sym h.files) files_of
+        let files_of = all-mapped HasSameData (HasSame files more) (file_of seen.delete_file) (λ (f : DataFileRow) e. (e, same_delete f.data_file_id seen.delete_file deletes)) rows all in
+        subst (λ (fs : List NamedFile). AllByRecursion (HasSame files more) fs) (sym h.files) files_of
 
-    all_files : (rs : List TableRow) (xs : List NamedTable) → AllZip (IsTableAt seen) rs xs → AllByRecursion HasSameFiles xs
+    all_files : (rs : List TableRow) (xs : List NamedTable) → AllZip (IsTableAt seen) rs xs → AllByRecursion (HasSameFiles files more) xs
     all_files [] [] h = tt
     all_files [] (x ∷ xs) h = absurd h
     all_files (r ∷ rs) [] h = absurd h
@@ -111,7 +75,7 @@ module _ (files more : Files) (extends : Extends files more) where
     still_plain : (state : State) → IsPlain files seen state → IsPlain more seen state
     still_plain state p =
         let states : state_of more 0 p.version ≡ state_of files 0 p.version =
-        ap (λ tables. record (state_of files 0 p.version) { tables = tables }) (same_tables p.version.tables (all_files seen.table p.version.tables p.sees.tables)) in
+        ap (λ tables. record (state_of files 0 p.version) { tables = tables }) (same_tables files more p.version.tables (all_files seen.table p.version.tables p.sees.tables)) in
         record { version = p.version; sees = p.sees; same = p.same ∙ ap uncounted (sym states) }
 
   -- ---- a content

@@ -7,3 +7,4 @@ pub mod StatsLemmas
 pub mod FileLemmas
 pub mod BuildLemmas
 pub mod ViewLemmas
+pub mod MoreLemmas
