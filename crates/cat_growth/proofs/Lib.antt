@@ -1,0 +1,6 @@
+mod OrderLemmas
+mod VersionLemmas
+mod DraftLemmas
+mod FitLemmas
+mod StagedLemmas
+mod ExampleLemmas

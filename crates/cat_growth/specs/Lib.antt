@@ -1,0 +1,4 @@
+pub mod Growth
+pub mod Fresh
+pub mod Laws
+pub mod Example
