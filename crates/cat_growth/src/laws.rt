@@ -1,6 +1,6 @@
 //! What holds of a version that a list of changes makes. Each function's contract is a law, and its body is empty.
 
-ghost use Rattle.cat_growth.specs.Example.{GrowsState, GrowsVersion, IsReadyToGrow};
+ghost use Rattle.cat_growth.specs.Example.{GrowsState, GrowsVersion, IsReadyToGrow, IsStagedToGrow};
 ghost use Rattle.cat_growth.specs.Laws.{MadeFilesHold, StagedFilesHold, StagedVersionsApply, VersionsApply, VersionsGrow};
 
 /// A version whose new files hold the rows of a list that only creates, drops and inserts is the plain state after that
@@ -19,9 +19,10 @@ pub fn staged_files_hold()
 {}
 
 /// An example: a list that inserts into a table, creates two of which it drops one, creates a schema and drops another.
-/// Its files are what the law asks for.
+/// Its files are what the laws ask for.
 pub fn a_version_grows()
     ensures version { GrowsVersion }
     ensures state { GrowsState }
     ensures ready { IsReadyToGrow }
+    ensures staged { IsStagedToGrow }
 {}
