@@ -4,3 +4,4 @@ mod DraftLemmas
 mod FitLemmas
 mod StagedLemmas
 mod ExampleLemmas
+mod HeadLemmas

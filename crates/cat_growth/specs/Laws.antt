@@ -1,6 +1,7 @@
 -- What holds of a version that a list of creations, drops and inserts makes.
 use Rattle.std.specs.Prelude.{◌≡◌, ℕ, ◌+◌, false, List, length}
 use Rattle.std.specs.List.{AllByRecursion}
+use Rattle.lake_types.specs.declared.kind.Kind.{Kind}
 use Rattle.lake_model.specs.Apply.{apply}
 use Rattle.lake_model.specs.Creations.{creations}
 use Rattle.lake_model.specs.Growth.{IsGrowth, grown_state, made_tables, rows_for}
@@ -9,6 +10,7 @@ use Rattle.lake_model.specs.State.{State}
 use Rattle.lake_model.specs.declared.change.Change.{Change}
 use Rattle.lake_model.specs.declared.change.Ref.{Ref}
 use Rattle.lake_model.specs.declared.change.Ref.TheVariants as ref
+use Rattle.lake_rebase.specs.Laws.{IsFree}
 use Rattle.cat_view.specs.Files.{Extends, Files}
 use Rattle.cat_view.specs.Named.{NamedTable, NamedVersion, state_of}
 use Rattle.cat_view.specs.Staged.{NamedStagedTable, staged_for}
@@ -50,6 +52,14 @@ MadeFilesHold =
     → AreFilesStaged at_staging version base own staged → Extends at_staging more
     → (ids starts : Ref → ℕ) → ((place : ℕ) → starts (ref.New place) ≡ 0)
     → AllByRecursion (IsMadeReady more (fresh_files ids starts staged)) (made_tables 0 own)
+
+-- ---- at a head past the base
+
+-- where the list conflicts with nothing that came between, all that it leaves at the head is unaltered
+abbrev pub FreeTablesStay : Type 0
+FreeTablesStay =
+    (told : List Kind) (base : State) (files : Files) (next : ℕ) (head : NamedVersion) (own : List Change) → IsFree told base (state_of files next head) own
+    → AllByRecursion (λ (x : NamedTable). drops_table own (ref.Old x.id) ≡ false → IsUnaltered base own x) head.tables
 
 -- So a head with the staged files is the plain state that Apply makes of the head's, whatever the ids of the files.
 abbrev pub StagedVersionsApply : Type 0
