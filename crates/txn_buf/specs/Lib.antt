@@ -1,4 +1,5 @@
 pub mod Base
 pub mod Drafts
 pub mod Keeping
+pub mod Laws
 pub mod Turns

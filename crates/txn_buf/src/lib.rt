@@ -10,6 +10,7 @@ mod drop_schema;
 mod drop_table;
 mod edits;
 mod find;
+pub mod laws;
 mod no;
 mod seen;
 mod tally;
