@@ -1,4 +1,5 @@
 pub mod ColumnLemmas
+pub mod InsertLemmas
 pub mod KeepLemmas
 pub mod PlanLemmas
 pub mod SeenLemmas

@@ -1,5 +1,6 @@
 pub mod Base
 pub mod Drafts
+pub mod Inserts
 pub mod Keeping
 pub mod Laws
 pub mod Turns

@@ -1,39 +1,21 @@
-ghost use Rattle.std.specs.Prelude.{◌≡◌, ◌≢◌, ◌++◌, ◌∷◌, [], Some, IfErr, IfOk, OnErr, OnOk};
+ghost use Rattle.std.specs.Prelude.{◌≡◌, ◌≢◌, ◌++◌, ◌∷◌, [], IfErr, OnErr, OnOk};
 ghost use Rattle.lake_types.specs.declared.stmt.Stmt.TheVariants as stmt;
-ghost use Rattle.lake_model.specs.Apply.{Draft, changed};
+ghost use Rattle.lake_model.specs.Apply.{changed};
 ghost use Rattle.lake_model.specs.Plans as plan;
 ghost use Rattle.lake_model.specs.declared.answer.Answer.TheVariants as answer;
 ghost use Rattle.txn_buf.specs.Drafts.{bare, work_of};
 ghost use Rattle.txn_buf.specs.Keeping.{txn_of};
-ghost use Rattle.txn_buf.specs.Turns.{Does, IsSameTxn, Refuses, StandsFor, answer_of, table_drop, table_ref};
+ghost use Rattle.txn_buf.specs.Turns.{Does, IsSameTxn, Refuses, StandsFor, answer_of, table_drop};
 ghost use Rattle.txn_buf.specs.declared.no.TxnNo.TheVariants.{Memory};
 
 use crate::buffer::TxnBuf;
+use crate::find::named_table;
 use crate::no::TxnNo;
 use crate::seen::Seen;
 use file_disk::Held;
-use lake_model::{Change, ChangeList, Ref};
-use lake_types::{Copied, TableName};
+use lake_model::{Change, ChangeList};
+use lake_types::TableName;
 use std::alloc::Global;
-
-/// The reference of the table of a name.
-fn named_ref(alloc: Global, seen: &Seen, table: &TableName) -> Result<Ref, TxnNo>
-    ensures found { IfOk result (λ at. table_ref (work_of seen.now) table.now ≡ Some at) }
-    ensures refused { IfErr result (λ why. why ≢ Memory → (p : Draft → plan.Plan) → plan.on_table (work_of seen.now)
-        table.now p ≡ plan.Refuse (answer_of why)) }
-{
-    let Some(schema) = seen.schema(table.schema.as_str()) else {
-        return Err(TxnNo::NoSchema {
-            name: table.schema.copy(alloc)?,
-        });
-    };
-    match seen.table(schema, table.table.as_str()) {
-        Some(found) => Ok(found.at),
-        None => Err(TxnNo::NoTable {
-            table: table.copy(alloc)?,
-        }),
-    }
-}
 
 /// Takes a table away from those that are seen, and adds the change.
 fn drop_table_in(
@@ -52,8 +34,8 @@ fn drop_table_in(
     ensures same_own { OnErr result (own.new ≡ own.old) }
     ensures same_seen { OnErr result (work_of seen.new ≡ work_of seen.old) }
 {
-    let table = match named_ref(alloc, seen, table) {
-        Ok(table) => table,
+    let table = match named_table(alloc, seen, table) {
+        Ok(found) => found.at,
         Err(no) => return Err(no),
     };
     own.push(Change::DropTable { table })?;

@@ -10,8 +10,11 @@ mod drop_schema;
 mod drop_table;
 mod edits;
 mod find;
+mod insert;
 pub mod laws;
 mod no;
+mod row;
+mod rows;
 mod seen;
 mod tally;
 
