@@ -1,10 +1,11 @@
-//! Times the crates, a word of the command line for each: `encodings`, `spans`, `rules`, `file` or `lines`, beside something in
-//! the same process that every machine does at its own speed. With `time` behind its word a bench prints times and their
-//! ratio; alone it prints counts and sums of a small input. Without any word all of them do so.
+//! Times the crates, a word of the command line for each: `encodings`, `spans`, `rules`, `file`, `lines` or `inserts`, beside
+//! something in the same process that every machine does at its own speed. With `time` behind its word a bench prints times
+//! and their ratio; alone it prints counts and sums of a small input. Without any word all of them do so.
 #![tactic(auto)]
 
 mod encodings;
 mod file;
+mod inserts;
 mod lines;
 mod rules;
 mod spans;
@@ -23,6 +24,7 @@ enum Bench {
     Rules,
     File,
     Lines,
+    Inserts,
 }
 
 /// The bench of a word; none of another word.
@@ -33,6 +35,7 @@ fn bench_of(word: &str) -> Option<Bench> {
         "rules" => Some(Bench::Rules),
         "file" => Some(Bench::File),
         "lines" => Some(Bench::Lines),
+        "inserts" => Some(Bench::Inserts),
         _ => None,
     }
 }
@@ -44,6 +47,7 @@ fn print_small(rt: &impl Print, alloc: Global, bench: Bench) -> Result<()> {
         Bench::Rules => rules::print_small(rt, alloc),
         Bench::File => file::print_small(rt, alloc),
         Bench::Lines => lines::print_small(rt, alloc),
+        Bench::Inserts => inserts::print_small(rt, alloc),
     }
 }
 
@@ -52,7 +56,8 @@ fn print_all(rt: &impl Print, alloc: Global) -> Result<()> {
     print_small(rt, alloc, Bench::Spans)?;
     print_small(rt, alloc, Bench::Rules)?;
     print_small(rt, alloc, Bench::File)?;
-    print_small(rt, alloc, Bench::Lines)
+    print_small(rt, alloc, Bench::Lines)?;
+    print_small(rt, alloc, Bench::Inserts)
 }
 
 fn print_times(rt: &(impl Print + Clock), alloc: Global, bench: Bench, how: &str) -> Result<()> {
@@ -62,6 +67,7 @@ fn print_times(rt: &(impl Print + Clock), alloc: Global, bench: Bench, how: &str
         Bench::Rules => rules::print_times(rt, alloc),
         Bench::File => file::print_many(rt, alloc, how),
         Bench::Lines => lines::print_times(rt, alloc),
+        Bench::Inserts => inserts::print_times(rt, alloc),
     }
 }
 
@@ -72,7 +78,7 @@ fn main(rt: HostRuntime) -> Result<()> {
         return print_all(&rt, alloc);
     };
     let Some(bench) = bench_of(word.as_str()) else {
-        println!(rt; "usage: bench [encodings|spans|rules|file|lines [time]]")?;
+        println!(rt; "usage: bench [encodings|spans|rules|file|lines|inserts [time]]")?;
         return Ok(());
     };
     match words.next() {

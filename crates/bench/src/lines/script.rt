@@ -4,21 +4,17 @@ use std::alloc::{AllocError, Global};
 use stmt_text::read_line;
 use stmt_tokens::cut_of;
 
-/// Rows of a line.
-const ROWS: u32 = 10;
-
-/// Lines one behind the other, and where each ends.
+/// Lines of as many rows, one behind the other, and where each ends.
 #[derive(Drop)]
 pub struct Script {
     pub bytes: String,
     pub ends: Vec<usize>,
 }
 
-/// Adds one row. Row 5 of line 3 is `(35, 'text of row 35', DATE '2024-01-06')`.
-fn add_row(alloc: Global, text: &mut String, line: u32, row: u32) -> Result<(), AllocError> {
-    let sep = if row == 0 { "" } else { ", " };
-    let number = u64::from(line) * u64::from(ROWS) + u64::from(row);
-    let day = 1 + row % 28;
+/// Adds the row of a number. That of 35, behind the first of its line, is `, (35, 'text of row 35', DATE '2024-01-08')`.
+fn add_row(alloc: Global, text: &mut String, number: u64, first: bool) -> Result<(), AllocError> {
+    let sep = if first { "" } else { ", " };
+    let day = 1 + number % 28;
     let row = format!(in alloc;
         "{sep}({number}, 'text of row {number}', DATE '2024-01-{day:02}')"
     )?;
@@ -26,20 +22,21 @@ fn add_row(alloc: Global, text: &mut String, line: u32, row: u32) -> Result<(), 
     Ok(())
 }
 
-fn add_line(alloc: Global, text: &mut String, line: u32) -> Result<(), AllocError> {
+fn add_line(alloc: Global, text: &mut String, line: u32, rows: u32) -> Result<(), AllocError> {
     text.push_str("1 INSERT INTO t VALUES ")?;
-    for row in 0..ROWS {
-        add_row(alloc, text, line, row)?;
+    for row in 0..rows {
+        let number = u64::from(line) * u64::from(rows) + u64::from(row);
+        add_row(alloc, text, number, row == 0)?;
     }
     Ok(())
 }
 
 impl Script {
-    pub fn new(alloc: Global, lines: u32) -> Result<Script, AllocError> {
+    pub fn new(alloc: Global, lines: u32, rows: u32) -> Result<Script, AllocError> {
         let mut bytes = String::new(alloc);
         let mut ends = Vec::new(alloc);
         for line in 0..lines {
-            add_line(alloc, &mut bytes, line)?;
+            add_line(alloc, &mut bytes, line, rows)?;
             ends.push(bytes.as_str().len())?;
         }
         Ok(Script { bytes, ends })

@@ -1,5 +1,6 @@
 //! The reading of many lines, timed beside a copy of their bytes into new memory.
 
+use crate::lines::ROWS;
 use crate::lines::script::{Script, count_said, count_tokens};
 use crate::times::nanos_since;
 use anyhow::Result;
@@ -33,7 +34,7 @@ fn copy_time(rt: &impl Clock, alloc: Global, bytes: &[u8]) -> Result<u64> {
 
 /// Prints the least times and their ratio, and how many lines were read at least.
 pub fn print_times(rt: &(impl Print + Clock), alloc: Global) -> Result<()> {
-    let script = Script::new(alloc, LINES)?;
+    let script = Script::new(alloc, LINES, ROWS)?;
     let bytes = script.bytes.as_str().as_bytes();
     let mut reading = u64::MAX;
     let mut said = usize::MAX;
