@@ -127,11 +127,11 @@ impl<F: Held> TxnBuf<F> {
     /// Inserts rows, and tells how many there are. Where there are none, it adds no change. The condition is
     /// that of `create_schema`.
     ///
-    /// `ReadOnly` and `Mixed` as there. Then, in this order: `NoSchema` and `NoTable`, where it sees no schema or
-    /// table of the name; of the first row that has a fault `Arity`, where it hasn't a cell for each column, or of
-    /// its first cell that has one `WrongType`, where the value isn't of its column's type, or `NotNull`, where it
-    /// is NULL and its column takes none; and `TooLarge`, where the rows that the transaction makes would weigh
-    /// more than `MAX_TXN_WEIGHT`.
+    /// `ReadOnly` and `Mixed` as there. Then, in this order: `NoSchema` and `NoTable`, where it sees no schema
+    /// or table of the name; of the first row that has a fault `Arity`, where it hasn't a cell for each column,
+    /// or of its first cell that has one `WrongType`, where the value isn't of its column's type, or `NotNull`,
+    /// where it is NULL and its column takes none; and `TooLarge`, where the rows that the transaction makes
+    /// would weigh more than `MAX_TXN_WEIGHT`.
     pub fn insert(
         &mut self,
         alloc: Global,
