@@ -2,4 +2,9 @@ pub mod ReadLemmas
 pub mod LeftLemmas
 pub mod FreshLemmas
 pub mod FileLemmas
+pub mod LaidLemmas
+pub mod OwnLemmas
+pub mod JobLemmas
+pub mod GrowingLemmas
+pub mod StageLemmas
 pub mod GrowthLemmas

@@ -3,9 +3,11 @@
 
 mod fault;
 mod fresh;
+mod jobs;
 pub mod laws;
+mod own;
 mod reading;
+mod tables;
 
-pub use fault::ReadNo;
-pub use fresh::stage_rows;
+pub use fault::{ReadNo, StageNo};
 pub use reading::read_live;

@@ -14,6 +14,6 @@ mod weights;
 pub use deletes::deleted_in;
 pub use live::{Stated, live_of};
 pub use rows::SheetRows;
-pub use sheets::{sheet_of, sheet_with_ids};
+pub use sheets::{add_cells, empty_column, sheet_of, sheet_with_ids};
 pub use stats::column_stats;
 pub use weights::sheet_weight;

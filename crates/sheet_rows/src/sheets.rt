@@ -1,4 +1,4 @@
-ghost use Rattle.std.specs.Prelude.{◌≡◌, ◌<◌, ◌^◌, All, IfOk, map, pos};
+ghost use Rattle.std.specs.Prelude.{◌≡◌, ◌<◌, ◌^◌, ◌++◌, [], All, IfOk, OnOk, map, pos};
 ghost use Rattle.lake_types.specs.declared.value.Value.TheVariants as value;
 ghost use Rattle.sheet_rows.specs.Sheets as spec;
 
@@ -22,20 +22,43 @@ fn file_cell(alloc: Global, column: &Column, cells: &[(u32, Value)]) -> Result<V
     }
 }
 
-fn file_column(alloc: Global, column: &Column, rows: &[CellValues]) -> Result<SheetColumn, NoMemory>
-    ensures { IfOk result (λ made. made ≡ spec.file_column rows.now column.now) }
+/// The column of a file that stands for a table's column, without cells.
+pub fn empty_column(alloc: Global, column: &Column) -> Result<SheetColumn, NoMemory>
+    ensures { IfOk result (λ made. made ≡ spec.file_column [] column.now) }
 {
-    let mut cells = ValueList::new(alloc);
-    for row in rows {
-        cells.push(file_cell(alloc, column, row.as_slice())?)?;
-    }
     Ok(SheetColumn {
         field: Some(column.field),
         name: column.name.copy(alloc)?,
         ty: column.ty,
         optional: true,
-        cells,
+        cells: ValueList::new(alloc),
     })
+}
+
+/// Adds the cells that some rows have in a table's column, which are its initial default where a row lacks one. Each
+/// is copied once.
+pub fn add_cells(
+    alloc: Global,
+    made: &mut SheetColumn,
+    column: &Column,
+    rows: &[CellValues],
+) -> Result<(), NoMemory>
+    ensures { OnOk result (made.new ≡ record made.old { cells = made.old.cells ++ map (spec.file_cell column.now)
+        rows.now }) }
+{
+    for row in rows {
+        made.cells
+            .push(file_cell(alloc, column, row.as_slice())?)?;
+    }
+    Ok(())
+}
+
+fn file_column(alloc: Global, column: &Column, rows: &[CellValues]) -> Result<SheetColumn, NoMemory>
+    ensures { IfOk result (λ made. made ≡ spec.file_column rows.now column.now) }
+{
+    let mut made = empty_column(alloc, column)?;
+    add_cells(alloc, &mut made, column, rows)?;
+    Ok(made)
 }
 
 fn file_columns(

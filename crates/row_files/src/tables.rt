@@ -1,0 +1,175 @@
+ghost use Rattle.std.specs.Prelude.{◌≡◌, ◌≤◌, ◌∷◌, [], ℕ, List, map, None, Option, Some, All, IfErr, IfNone, IfOk, OnOk, IsErrOf};
+ghost use Rattle.lake_io.specs.Causes.{Rose};
+ghost use Rattle.indexmap.specs.IndexMap.{get};
+ghost use Rattle.lake_model.specs.Apply.{is_ref};
+ghost use Rattle.cat_view.specs.Views.{named_tables};
+ghost use Rattle.row_files.specs.Own as own_spec;
+ghost use Rattle.row_files.specs.Stages as spec;
+ghost use Rattle.row_files.specs.Staging.{named_file};
+ghost use Rattle.row_files.specs.declared.fault.StageNo.TheVariants as stage_no;
+
+use crate::fault::StageNo;
+use crate::fresh::stage_rows;
+use crate::jobs::Job;
+use crate::own::OwnTables;
+use cat_view::{StagedFile, StagedTable, TableView};
+use file_disk::{FileDisk, Held};
+use lake_io::Names;
+use lake_model::{Change, Ref};
+use lake_types::{Column, RowList};
+use new_files::NewFileNo;
+use std::alloc::Global;
+use std::sync::Arc;
+
+fn refused(why: NewFileNo) -> StageNo
+    ensures { result ≡ spec.refusal why }
+{
+    match why {
+        NewFileNo::DiskFault => StageNo::DiskFault,
+        NewFileNo::Taken { name } => StageNo::Taken { name },
+        NewFileNo::Memory => StageNo::Memory,
+    }
+}
+
+/// A table with fresh rows alone.
+fn only_fresh<F>(alloc: Global, table: Ref, file: StagedFile<F>) -> StagedTable<F>
+    ensures fresh { result.fresh ≡ Some file }
+    ensures whole { (name : F → List ℕ) (size : F → ℕ)
+        → spec.named_table name size result ≡ spec.only_fresh table (named_file name size file) }
+{
+    StagedTable {
+        table,
+        fresh: Some(file),
+        updated: None,
+        merged: Vec::new(alloc),
+        ended_files: Vec::new(alloc),
+        inlined: RowList::new(alloc),
+        inlined_fresh: 0,
+        ended_rows: Vec::new(alloc),
+        deletes: Vec::new(alloc),
+    }
+}
+
+/// Adds a table with fresh rows alone.
+fn add_fresh<F: Drop>(
+    alloc: Global,
+    tables: &mut Vec<StagedTable<F>>,
+    table: Ref,
+    file: StagedFile<F>,
+) -> Result<(), StageNo>
+    ensures added { OnOk result ((name : F → List ℕ) (size : F → ℕ)
+        → spec.AddsFresh name size table file tables.old.items tables.new.items) }
+    ensures refused { IfErr result (λ why. why ≡ stage_no.Memory) }
+{
+    tables.push(only_fresh(alloc, table, file))?;
+    Ok(())
+}
+
+/// Stages the rows that changes at these places of a list insert into one more table.
+#[tactic(auto, using(crate::proofs::StageLemmas::adding))]
+fn stage_table<D: FileDisk, N: Names>(
+    alloc: Global,
+    disk: &mut D,
+    names: &mut N,
+    tables: &mut Vec<StagedTable<D::File>>,
+    table: Ref,
+    columns: &[Column],
+    own: &[Change],
+    places: &[usize],
+) -> Result<(), StageNo>
+    requires { spec.CanBeStaged (own_spec.fresh_at table columns.now own.now places.now) }
+    ensures staged { OnOk result (spec.StagesMore D.File.name D.File.size D.File.bytes
+        (own_spec.fresh_at table columns.now own.now places.now ∷ [])
+        (N.drawn names.old) (N.drawn names.new) (D.files disk.old) (D.files disk.new)
+        (D.images disk.old) (D.images disk.new) tables.old.items tables.new.items) }
+    ensures taken { spec.IfTakenName result (spec.EndsAtTaken (N.drawn names.old) (N.drawn names.new)
+        (D.files disk.old) (D.files disk.new)) }
+    ensures taken_untold { spec.IfTakenName result (λ _.
+        IfNone (D.files disk.old) (Rose (D.faults disk.old) (D.faults disk.new))) }
+    ensures cause { IsErrOf result stage_no.DiskFault → Rose (D.faults disk.old) (D.faults disk.new) }
+    ensures later { D.faults disk.old ≤ D.faults disk.new }
+
+    // On every answer.
+    ensures wrote { spec.WroteThese (N.drawn names.old) (N.drawn names.new) (D.files disk.old) (D.files disk.new)
+        (D.images disk.old) (D.images disk.new) }
+    ensures opens { D.opens disk.new ≡ D.opens disk.old }
+    ensures part { D.part disk.new ≡ D.part disk.old }
+{
+    let file = match stage_rows(alloc, disk, names, columns, own, places) {
+        Ok(file) => file,
+        Err(why) => return Err(refused(why)),
+    };
+    add_fresh(alloc, tables, table, file)
+}
+
+/// The columns of the table that a job is of.
+fn columns_of<'a, F: Held>(
+    tables: &'a [Arc<TableView<F>>],
+    own: &'a [Change],
+    job: Job,
+) -> &'a [Column]
+    ensures { result.now ≡ own_spec.columns_at (named_tables F.name tables.now) own.now job.table job.place }
+{
+    match job.table {
+        Ref::Old(_) => match tables.get(job.place) {
+            Some(table) => table.columns.as_slice(),
+            None => &[],
+        },
+        Ref::New(_) => match own.get(job.place) {
+            Some(Change::CreateTable { columns, .. }) => columns.as_slice(),
+            _ => &[],
+        },
+    }
+}
+
+/// The places of the changes that insert into a table.
+fn places_of(kept: &OwnTables, table: Ref) -> &[usize]
+    ensures { result.now ≡ own_spec.inserts_of (get is_ref kept.now table) }
+{
+    match kept.get(&table) {
+        Some(own) => own.inserts.as_slice(),
+        None => &[],
+    }
+}
+
+/// Stages the table of each job in turn.
+#[tactic(auto, using(crate::proofs::StageLemmas::several))]
+fn stage_jobs<D: FileDisk, N: Names>(
+    alloc: Global,
+    disk: &mut D,
+    names: &mut N,
+    tables: &[Arc<TableView<D::File>>],
+    own: &[Change],
+    kept: &OwnTables,
+    jobs: &[Job],
+) -> Result<Vec<StagedTable<D::File>>, StageNo>
+    requires { All spec.CanBeStaged (map (own_spec.fresh_job (named_tables D.File.name tables.now) own.now
+        (get is_ref kept.now)) jobs.now) }
+    ensures staged { IfOk result (λ staged. spec.StagesTables D.File.name D.File.size D.File.bytes
+        (map (own_spec.fresh_job (named_tables D.File.name tables.now) own.now (get is_ref kept.now)) jobs.now)
+        (N.drawn names.old) (N.drawn names.new) (D.files disk.old) (D.files disk.new)
+        (D.images disk.old) (D.images disk.new) staged.items) }
+    ensures taken { spec.IfTakenName result (spec.EndsAtTaken (N.drawn names.old) (N.drawn names.new)
+        (D.files disk.old) (D.files disk.new)) }
+    ensures taken_untold { spec.IfTakenName result (λ _.
+        IfNone (D.files disk.old) (Rose (D.faults disk.old) (D.faults disk.new))) }
+    ensures cause { IsErrOf result stage_no.DiskFault → Rose (D.faults disk.old) (D.faults disk.new) }
+    ensures later { D.faults disk.old ≤ D.faults disk.new }
+
+    // On every answer.
+    ensures wrote { spec.WroteThese (N.drawn names.old) (N.drawn names.new) (D.files disk.old) (D.files disk.new)
+        (D.images disk.old) (D.images disk.new) }
+    ensures opens { D.opens disk.new ≡ D.opens disk.old }
+    ensures part { D.part disk.new ≡ D.part disk.old }
+{
+    let mut staged = Vec::new(alloc);
+    for job in jobs {
+        let columns = columns_of(tables, own, *job);
+        let places = places_of(kept, job.table);
+        match stage_table(alloc, disk, names, &mut staged, job.table, columns, own, places) {
+            Ok(()) => {}
+            Err(why) => return Err(why),
+        }
+    }
+    Ok(staged)
+}
