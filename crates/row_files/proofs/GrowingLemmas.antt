@@ -1,5 +1,5 @@
 -- The jobs of a list that only creates, drops and inserts are its tables with fresh rows.
-use Rattle.std.proofs.Common.{◌≡◌, ℕ, suc, ◌+◌, ◌<◌, ◌++◌, ◌&&◌, ◌||◌, not, Bool, true, false, cond, List, [], ◌∷◌, append_assoc, append-nil, length, map, filter, Option, Some, None, option_map, refl, sym, ap, ap₂, ◌∙◌, arith, if◌then◌else◌}
+use Rattle.std.proofs.Common.{◌≡◌, ℕ, suc, ◌+◌, ◌<◌, ◌++◌, ◌&&◌, ◌||◌, not, Bool, true, false, cond, List, [], ◌∷◌, append_assoc, append-nil, length, map, filter, Option, Some, None, option_map, refl, sym, ap, ap₂, subst, ◌∙◌, arith, if◌then◌else◌}
 use Rattle.std.specs.List.{AllByRecursion, flat_map, list_any, slice_get}
 use Rattle.std.specs.Option.{option_map_or}
 use Rattle.std.proofs.lemmas.List.{length-append, map-append}
@@ -201,3 +201,11 @@ module _ (tables : List NamedTable) (own : List Change) (kept : Ref → Option O
       map-append (fresh_job tables own kept) (old_jobs own kept 0 tables) (made_jobs own kept 0 0 own)
       ∙ ap₂ (λ xs ys. xs ++ ys) (old_tables [] tables 0 refl refl) (made [] own 0 0 refl refl growth fields comes.made)
       ∙ sym (filter-append has_rows (map (fresh_of_old own) (filter (λ (x : NamedTable). not (drops_table own (ref.Old x.id))) tables)) (map fresh_of (made_tables 0 own)))
+
+pub jobs_of_view : (v : NamedVersion) (tables : List NamedTable) (own mine : List Change) (kept : Ref → Option OwnTable) (jobs : List Job) → tables ≡ v.tables → mine ≡ own
+    → jobs ≡ old_jobs mine kept 0 tables ++ made_jobs mine kept 0 0 mine → ComesTo 0 0 mine (λ r. None) kept → AllByRecursion IsGrowth own → AllByRecursion HasFields own
+    → map (fresh_job tables mine kept) jobs ≡ fresh_tables v own
+jobs_of_view v tables own mine kept jobs is same are comes growth fields =
+    ap (map (fresh_job tables mine kept)) are
+    ∙ jobs_are tables mine kept comes (subst (AllByRecursion IsGrowth) (sym same) growth) (subst (AllByRecursion HasFields) (sym same) fields)
+    ∙ ap₂ (λ ts cs. fresh_tables (record v { tables = ts }) cs) is same

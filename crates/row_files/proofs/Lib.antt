@@ -8,3 +8,5 @@ pub mod JobLemmas
 pub mod GrowingLemmas
 pub mod StageLemmas
 pub mod GrowthLemmas
+pub mod JoinLemmas
+pub mod FitsLemmas

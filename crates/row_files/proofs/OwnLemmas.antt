@@ -23,7 +23,7 @@ same_ref (ref.New a) (ref.New b) is = ap ref.New (eqb-true a b is)
 same_ref (ref.Old a) (ref.New b) is = absurd cc
 same_ref (ref.New a) (ref.Old b) is = absurd cc
 
-turned : (a b : Ref) → is_ref a b ≡ is_ref b a
+pub turned : (a b : Ref) → is_ref a b ≡ is_ref b a
 turned (ref.Old a) (ref.Old b) = search arith
 turned (ref.New a) (ref.New b) = search arith
 turned (ref.Old a) (ref.New b) = refl

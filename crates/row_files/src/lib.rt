@@ -11,3 +11,4 @@ mod tables;
 
 pub use fault::{ReadNo, StageNo};
 pub use reading::read_live;
+pub use tables::stage;

@@ -1,8 +1,15 @@
-ghost use Rattle.std.specs.Prelude.{◌≡◌, ◌≤◌, ◌∷◌, [], ℕ, List, map, None, Option, Some, All, IfErr, IfNone, IfOk, OnOk, IsErrOf};
+ghost use Rattle.std.specs.Prelude.{◌≡◌, ◌≤◌, ◌∷◌, [], ℕ, List, map, None, Option, Some, All, IfErr, IfNone, IfOk, IfSome, OnOk, IsErrOf};
+ghost use Rattle.std.specs.List.{AllByRecursion};
 ghost use Rattle.lake_io.specs.Causes.{Rose};
 ghost use Rattle.indexmap.specs.IndexMap.{get};
 ghost use Rattle.lake_model.specs.Apply.{is_ref};
-ghost use Rattle.cat_view.specs.Views.{named_tables};
+ghost use Rattle.lake_model.specs.Fits.{Fits};
+ghost use Rattle.lake_model.specs.Growth.{IsGrowth};
+ghost use Rattle.lake_model.specs.State.{State};
+ghost use Rattle.cat_view.specs.Staged.{IsStaged};
+ghost use Rattle.cat_view.specs.Views.{named_tables, named_view};
+ghost use Rattle.row_files.specs.Folders.{files_of};
+ghost use Rattle.row_files.specs.Growing.{AreTables, HasFields, HasTables, fresh_tables};
 ghost use Rattle.row_files.specs.Own as own_spec;
 ghost use Rattle.row_files.specs.Stages as spec;
 ghost use Rattle.row_files.specs.Staging.{named_file};
@@ -10,12 +17,12 @@ ghost use Rattle.row_files.specs.declared.fault.StageNo.TheVariants as stage_no;
 
 use crate::fault::StageNo;
 use crate::fresh::stage_rows;
-use crate::jobs::Job;
-use crate::own::OwnTables;
-use cat_view::{StagedFile, StagedTable, TableView};
+use crate::jobs::{Job, jobs_of};
+use crate::own::{OwnTables, own_tables};
+use cat_view::{Staged, StagedFile, StagedTable, TableView, View};
 use file_disk::{FileDisk, Held};
 use lake_io::Names;
-use lake_model::{Change, Ref};
+use lake_model::{Change, Ref, Txn};
 use lake_types::{Column, RowList};
 use new_files::NewFileNo;
 use std::alloc::Global;
@@ -172,4 +179,58 @@ fn stage_jobs<D: FileDisk, N: Names>(
         }
     }
     Ok(staged)
+}
+
+/// Writes the fresh rows that a transaction leaves, for each table a new data file of its own, which is synced: tables
+/// of the view in their order, and behind them the created ones in order of creation. A table that isn't there after
+/// the list, or that has no fresh rows, stages nothing.
+///
+/// The own list only creates, drops and inserts, and may stand on the view. `Taken` tells the name of the last number
+/// that was drawn. After a refusal the files that were made before stay, under names that nothing tells, and a part of
+/// one more may lie there.
+pub fn stage<D: FileDisk, N: Names>(
+    alloc: Global,
+    disk: &mut D,
+    names: &mut N,
+    view: &View<D::File>,
+    txn: &Txn,
+) -> Result<Staged<D::File>, StageNo>
+    requires growth { AllByRecursion IsGrowth txn.now.own }
+    requires tables { AreTables (named_view D.File.name view.now).tables }
+    requires fields { AllByRecursion HasFields txn.now.own }
+    requires can { All spec.CanBeStaged (fresh_tables (named_view D.File.name view.now) txn.now.own) }
+    ensures staged { IfOk result (λ staged. spec.StagesTables D.File.name D.File.size D.File.bytes
+        (fresh_tables (named_view D.File.name view.now) txn.now.own)
+        (N.drawn names.old) (N.drawn names.new) (D.files disk.old) (D.files disk.new)
+        (D.images disk.old) (D.images disk.new) staged.tables.items) }
+    ensures stands { IfOk result (λ staged. IfSome (D.files disk.new) (λ folder. (state : State)
+        → HasTables (named_view D.File.name view.now) state → Fits state txn.now.own
+        → IsStaged (files_of folder) (named_view D.File.name view.now) state txn.now.own
+            (spec.named_tables D.File.name D.File.size staged.tables.items))) }
+
+    ensures taken { spec.IfTakenName result (spec.EndsAtTaken (N.drawn names.old) (N.drawn names.new)
+        (D.files disk.old) (D.files disk.new)) }
+    ensures taken_untold { spec.IfTakenName result (λ _.
+        IfNone (D.files disk.old) (Rose (D.faults disk.old) (D.faults disk.new))) }
+    ensures cause { IsErrOf result stage_no.DiskFault → Rose (D.faults disk.old) (D.faults disk.new) }
+    ensures later { D.faults disk.old ≤ D.faults disk.new }
+
+    // On every answer.
+    ensures wrote { spec.WroteThese (N.drawn names.old) (N.drawn names.new) (D.files disk.old) (D.files disk.new)
+        (D.images disk.old) (D.images disk.new) }
+    ensures opens { D.opens disk.new ≡ D.opens disk.old }
+    ensures part { D.part disk.new ≡ D.part disk.old }
+{
+    let own = txn.own.as_slice();
+    let Ok(kept) = own_tables(alloc, own) else {
+        return Err(StageNo::Memory);
+    };
+    let tables = view.tables();
+    let Ok(jobs) = jobs_of(alloc, tables, own, &kept) else {
+        return Err(StageNo::Memory);
+    };
+    match stage_jobs(alloc, disk, names, tables, own, &kept, jobs.as_slice()) {
+        Ok(staged) => Ok(Staged { tables: staged }),
+        Err(why) => Err(why),
+    }
 }
