@@ -42,7 +42,10 @@ use Rattle.row_files.specs.Fresh.{AreColumns, AreFresh, HasOtherField, IsLaid, M
 use Rattle.row_files.specs.Growing.{AreTables, HasFields, HasOtherId, HasTables, IsSameTable, fresh_of, has_rows, is_some_row}
 use Rattle.row_files.specs.Own.{IsEarlier}
 use Rattle.row_files.specs.Stages.{CanBeStaged, FreshTable}
+use Rattle.lake_model.proofs.GrowthLemmas.{left_laid}
+use Rattle.row_files.proofs.JoinLemmas.{same_self}
 use Rattle.row_files.proofs.LaidLemmas.{kept, laid_twice}
+use Rattle.row_files.proofs.OwnLemmas.{turned}
 
 -- ---- faults that don't stand
 
@@ -210,3 +213,197 @@ row_fits (c ∷ columns) (x ∷ row) apart count none sized =
     let one : IsCell c.ty (r.given c x) = record { short = short_cell (r.given c x) sized.0; fits = cell_fits c x both.0 } in
     All-cons (λ d. MayHold d (r.cells_of (c ∷ columns) (x ∷ row))) c columns (rw (same_number c.field) one)
     (λ k d lt. rw (ne_eqb c.field (get_or columns k d).field (apart zero (suc k) d (omega arith) (omega (arith, lt)))) (rest k d lt))
+
+-- ---- rows that can stand in a file
+
+pub record IsGoodRow (columns : List Column) (cells : Cells) : Type 0 where
+  pub laid : IsLaid columns cells
+  pub fit : All (λ c. MayHold c cells) columns
+
+abbrev pub RowOf : List Column → Option Cells → Type 0
+RowOf columns None = Unit {0}
+RowOf columns (Some cells) = IsGoodRow columns cells
+
+-- a draft whose columns files can hold, and whose fresh rows stand in them and weigh at most so much
+pub record IsGood (most : ℕ) (d : Draft) : Type 0 where
+  pub columns : AreColumns d.columns
+  pub rows : AllByRecursion (RowOf d.columns) d.fresh
+  pub light : sum_by row_weight (left d.fresh) ≤ most
+
+good_row : (columns : List Column) (row : List Cell) → AllPairs HasOtherField columns → r.row_fault columns row ≡ None → AreCells (r.cells_of columns row)
+    → IsGoodRow columns (laid_cells columns (r.cells_of columns row))
+good_row columns row apart none sized =
+    let both = first_none _ (r.cells_fault columns row) none in
+    let alike : (length columns == length row) ≡ true = not_not (length columns == length row) (not_refused _ _ both.0) in
+    let fit = row_fits columns row apart (grind (arith, alike)) both.1 sized in
+    record {
+      laid = laid_twice columns (r.cells_of columns row) apart;
+      fit = λ k d lt. subst (λ v. IsCell (get_or columns k d).ty v) (sym (kept columns (r.cells_of columns row) apart k d lt)) (fit k d lt);
+    }
+
+good_rows : (columns : List Column) (given : List (List Cell)) → AllPairs HasOtherField columns → r.rows_fault columns given ≡ None → AllByRecursion AreCells (map (r.cells_of columns) given)
+    → AllByRecursion (RowOf columns) (map (λ cells. Some (laid_cells columns cells)) (map (r.cells_of columns) given))
+good_rows columns [] apart none sized = tt
+good_rows columns (row ∷ given) apart none sized =
+    let both = first_none (r.row_fault columns row) (r.rows_fault columns given) none in
+    (good_row columns row apart both.0 sized.0, good_rows columns given apart both.1 sized.1)
+
+joined : {X : Type 0} (P : X → Type 0) (xs ys : List X) → AllByRecursion P xs → AllByRecursion P ys → AllByRecursion P (xs ++ ys)
+joined P [] ys one two = two
+joined P (x ∷ xs) ys one two = (one.0, joined P xs ys one.1 two)
+
+left_both : (xs ys : List (Option Cells)) → left (xs ++ ys) ≡ left xs ++ left ys
+left_both [] ys = refl
+left_both (None ∷ xs) ys = left_both xs ys
+left_both (Some x ∷ xs) ys = ap (λ l. x ∷ l) (left_both xs ys)
+
+-- the weight with rows that are inserted
+more_weight : (d : Draft) (rows : List Cells) → sum_by row_weight (left (with_rows rows d).fresh) ≡ sum_by row_weight (left d.fresh) + sum_by row_weight (map (laid_cells d.columns) rows)
+more_weight d rows =
+    ap (sum_by row_weight) (left_both d.fresh (map (λ cells. Some (laid_cells d.columns cells)) rows) ∙ ap (λ l. left d.fresh ++ l) (left_laid d.columns rows))
+    ∙ sum_by-append row_weight (left d.fresh) (map (laid_cells d.columns) rows)
+
+-- ---- drafts have references of their own
+
+abbrev pub Differ : List Draft → Type 0
+Differ [] = Unit {0}
+Differ (d ∷ ds) = AllByRecursion (λ (e : Draft). is_ref e.at d.at ≡ false) ds × Differ ds
+
+pub record AreGood (most n : ℕ) (ds : List Draft) : Type 0 where
+  pub good : AllByRecursion (IsGood most) ds
+  pub below : AllByRecursion (λ (d : Draft). IsEarlier n d.at) ds
+  pub differ : Differ ds
+
+-- the draft that is found is the only one with its reference
+alone : (q : Draft → Bool) (ds : List Draft) (d : Draft) → find q ds ≡ Some d → Differ ds → AllByRecursion (λ (e : Draft). is_ref e.at d.at ≡ true → e ≡ d) ds
+alone q [] d e h = tt
+alone q (x ∷ ds) d e h = go (q x) refl (λ more. alone q ds d more h.1)
+  where
+    others : (es : List Draft) → AllByRecursion (λ (y : Draft). is_ref y.at x.at ≡ false) es → AllByRecursion (λ (y : Draft). is_ref y.at x.at ≡ true → y ≡ x) es
+    others [] k = tt
+    others (y ∷ es) k = ((λ same. absurd (true≢false (sym same ∙ k.0))), others es k.1)
+
+    go : (b : Bool) → q x ≡ b → (find q ds ≡ Some d → AllByRecursion (λ (y : Draft). is_ref y.at d.at ≡ true → y ≡ d) ds) → AllByRecursion (λ (y : Draft). is_ref y.at d.at ≡ true → y ≡ d) (x ∷ ds)
+    go true is more =
+        let some : Some x ≡ Some d = rw is at e in
+        let same : x ≡ d = cc in
+        subst (λ z. AllByRecursion (λ (y : Draft). is_ref y.at z.at ≡ true → y ≡ z) (x ∷ ds)) same ((λ yes_. refl), others ds h.0)
+    go false is more =
+        let found : find q ds ≡ Some d = rw is at e in
+        let apart : is_ref x.at d.at ≡ false = turned x.at d.at ∙ plan.found-has (λ (y : Draft). is_ref y.at x.at ≡ false) q ds d found h.0 in
+        ((λ same. absurd (true≢false (sym same ∙ apart))), more found)
+
+by_reference : (q : Draft → Bool) (ds : List Draft) (d : Draft) → find q ds ≡ Some d → Differ ds → find (λ (e : Draft). is_ref e.at d.at) ds ≡ Some d
+by_reference q [] d e h = absurd cc
+by_reference q (x ∷ ds) d e h = go (q x) refl (λ more. by_reference q ds d more h.1)
+  where
+    go : (b : Bool) → q x ≡ b → (find q ds ≡ Some d → find (λ (y : Draft). is_ref y.at d.at) ds ≡ Some d) → find (λ (y : Draft). is_ref y.at d.at) (x ∷ ds) ≡ Some d
+    go true is more =
+        let some : Some x ≡ Some d = rw is at e in
+        let same : x ≡ d = cc in
+        let itself : is_ref x.at d.at ≡ true = ap (λ (y : Draft). is_ref y.at d.at) same ∙ same_self d.at in
+        rw itself some
+    go false is more =
+        let found : find q ds ≡ Some d = rw is at e in
+        let apart : is_ref x.at d.at ≡ false = turned x.at d.at ∙ plan.found-has (λ (y : Draft). is_ref y.at x.at ≡ false) q ds d found h.0 in
+        rw apart (more found)
+
+-- ---- one change
+
+only_left : (P : Draft → Type 0) (q : Draft → Bool) (ds : List Draft) → AllByRecursion P ds → AllByRecursion P (filter q ds)
+only_left P q [] all = tt
+only_left P q (d ∷ ds) all = go (q d) refl (only_left P q ds all.1)
+  where
+    go : (b : Bool) → q d ≡ b → AllByRecursion P (filter q ds) → AllByRecursion P (filter q (d ∷ ds))
+    go true e more = rw e (all.0, more)
+    go false e more = rw e more
+
+new_ref : (n : ℕ) (at : Ref) → IsEarlier n at → is_ref (ref.New n) at ≡ false
+new_ref n (ref.Old id) h = refl
+new_ref n (ref.New place) h = ne_eqb n place (λ same. absurd (omega (arith, same, h)))
+
+later_ref : (n : ℕ) (at : Ref) → IsEarlier n at → IsEarlier (n + 1) at
+later_ref n (ref.Old id) h = tt
+later_ref n (ref.New place) h = omega (arith, h)
+
+heavier : (most more : ℕ) (ds : List Draft) → most ≤ more → AllByRecursion (IsGood most) ds → AllByRecursion (IsGood more) ds
+heavier most more [] le all = tt
+heavier most more (d ∷ ds) le all = (record { columns = all.0.columns; rows = all.0.rows; light = omega (arith, all.0.light, le) }, heavier most more ds le all.1)
+
+differ_left : (q : Draft → Bool) (ds : List Draft) → Differ ds → Differ (filter q ds)
+differ_left q [] h = tt
+differ_left q (d ∷ ds) h = go (q d) refl (only_left (λ (e : Draft). is_ref e.at d.at ≡ false) q ds h.0) (differ_left q ds h.1)
+  where
+    go : (b : Bool) → q d ≡ b → AllByRecursion (λ (e : Draft). is_ref e.at d.at ≡ false) (filter q ds) → Differ (filter q ds) → Differ (filter q (d ∷ ds))
+    go true e one more = rw e (one, more)
+    go false e one more = rw e more
+
+left_good : (most n : ℕ) (q : Draft → Bool) (ds : List Draft) → AreGood most n ds → AreGood most n (filter q ds)
+left_good most n q ds h = record { good = only_left (IsGood most) q ds h.good; below = only_left (λ (d : Draft). IsEarlier n d.at) q ds h.below; differ = differ_left q ds h.differ }
+
+new_apart : (n : ℕ) (ds : List Draft) → AllByRecursion (λ (d : Draft). IsEarlier n d.at) ds → (d : Draft) → d.at ≡ ref.New n → Differ ds → Differ (ds ++ d ∷ [])
+new_apart n [] below d is h = (tt, tt)
+new_apart n (e ∷ ds) below d is h =
+    (joined (λ (x : Draft). is_ref x.at e.at ≡ false) ds (d ∷ []) h.0 (ap (λ a. is_ref a e.at) is ∙ new_ref n e.at below.0, tt), new_apart n ds below.1 d is h.1)
+
+still_below : (n : ℕ) (ds : List Draft) → AllByRecursion (λ (d : Draft). IsEarlier n d.at) ds → AllByRecursion (λ (d : Draft). IsEarlier (n + 1) d.at) ds
+still_below n [] all = tt
+still_below n (d ∷ ds) all = (later_ref n d.at all.0, still_below n ds all.1)
+
+created_good : (most n : ℕ) (ds : List Draft) (schema : Ref) (name : List ℕ) (columns : List Column) → AreColumns (fields_from 1 columns) → AreGood most n ds
+    → AreGood most (n + 1) (ds ++ created n schema name columns ∷ [])
+created_good most n ds schema name columns are h = record {
+  good = joined (IsGood most) ds (created n schema name columns ∷ []) h.good (record { columns = are; rows = tt; light = omega arith }, tt);
+  below = joined (λ (d : Draft). IsEarlier (n + 1) d.at) ds (created n schema name columns ∷ []) (still_below n ds h.below) (omega arith, tt);
+  differ = new_apart n ds h.below (created n schema name columns) refl h.differ;
+}
+
+module _ (table : Ref) (rows : List Cells) (most : ℕ) (d : Draft) (at : d.at ≡ table) (are : AllByRecursion (RowOf d.columns) (map (λ cells. Some (laid_cells d.columns cells)) rows)) where
+  abbrev inserted_at : Draft → Draft
+  inserted_at e = cond (is_ref e.at table) (with_rows rows e) e
+
+  abbrev heavy : ℕ
+  heavy = most + sum_by row_weight (map (laid_cells d.columns) rows)
+
+  one_good : (e : Draft) → (is_ref e.at d.at ≡ true → e ≡ d) → IsGood most e → IsGood heavy (inserted_at e)
+  one_good e same good = go (is_ref e.at table) refl
+    where
+      rows_in : IsGood most d → IsGood heavy (with_rows rows d)
+      rows_in g = record {
+        columns = g.columns;
+        rows = joined (RowOf d.columns) d.fresh (map (λ cells. Some (laid_cells d.columns cells)) rows) g.rows are;
+        light = omega (arith, more_weight d rows, g.light);
+      }
+
+      go : (b : Bool) → is_ref e.at table ≡ b → IsGood heavy (inserted_at e)
+      go true is =
+          let e_is : e ≡ d = same (ap (is_ref e.at) at ∙ is) in
+          rw is (subst (λ x. IsGood heavy (with_rows rows x)) (sym e_is) (rows_in (subst (IsGood most) e_is good)))
+      go false is = rw is (record { columns = good.columns; rows = good.rows; light = omega (arith, good.light) })
+
+  inserted_ref : (e : Draft) → (inserted_at e).at ≡ e.at
+  inserted_ref e = go (is_ref e.at table)
+    where
+      go : (b : Bool) → (cond b (with_rows rows e) e).at ≡ e.at
+      go true = refl
+      go false = refl
+
+  all_inserted : (ds : List Draft) → AllByRecursion (λ (e : Draft). is_ref e.at d.at ≡ true → e ≡ d) ds → AllByRecursion (IsGood most) ds → AllByRecursion (IsGood heavy) (map inserted_at ds)
+  all_inserted [] same all = tt
+  all_inserted (e ∷ ds) same all = (one_good e same.0 all.0, all_inserted ds same.1 all.1)
+
+  all_below : (n : ℕ) (ds : List Draft) → AllByRecursion (λ (e : Draft). IsEarlier n e.at) ds → AllByRecursion (λ (e : Draft). IsEarlier n e.at) (map inserted_at ds)
+  all_below n [] all = tt
+  all_below n (e ∷ ds) all = (subst (IsEarlier n) (sym (inserted_ref e)) all.0, all_below n ds all.1)
+
+  apart_from : (x : Ref) (ds : List Draft) → AllByRecursion (λ (e : Draft). is_ref e.at x ≡ false) ds → AllByRecursion (λ (e : Draft). is_ref e.at x ≡ false) (map inserted_at ds)
+  apart_from x [] all = tt
+  apart_from x (e ∷ ds) all = (ap (λ a. is_ref a x) (inserted_ref e) ∙ all.0, apart_from x ds all.1)
+
+  all_differ : (ds : List Draft) → Differ ds → Differ (map inserted_at ds)
+  all_differ [] h = tt
+  all_differ (e ∷ ds) h =
+      (subst (λ a. AllByRecursion (λ (x : Draft). is_ref x.at a ≡ false) (map inserted_at ds)) (sym (inserted_ref e)) (apart_from e.at ds h.0), all_differ ds h.1)
+
+  inserted_good : (n : ℕ) (q : Draft → Bool) (ds : List Draft) → find q ds ≡ Some d → AreGood most n ds → AreGood heavy n (map inserted_at ds)
+  inserted_good n q ds found h = record { good = all_inserted ds (alone q ds d found h.differ) h.good; below = all_below n ds h.below; differ = all_differ ds h.differ }

@@ -139,7 +139,7 @@ left_apart v own ids =
 
 -- ---- what is staged for each of them
 
-same_self : (at : Ref) → is_ref at at ≡ true
+pub same_self : (at : Ref) → is_ref at at ≡ true
 same_self (ref.Old id) = search arith
 same_self (ref.New place) = search arith
 
