@@ -1,8 +1,8 @@
 -- The fresh rows that a list leaves which a transaction may have can stand in files.
 use Rattle.std.proofs.Common.{◌≡◌, ◌≢◌, ℕ, zero, suc, ◌+◌, ◌*◌, ◌<◌, ◌≤◌, ◌==◌, ◌&&◌, ◌||◌, not, nat_lt, nat_le, ◌++◌, Bool, true, false, cond, List, [], ◌∷◌, length, map, filter, fold, get_or, All, AllPairs, Option, Some, None, option_map, find, refl, sym, ap, ap₂, subst, ◌∙◌, arith, true≢false}
 use Rattle.std.specs.List.{AllByRecursion, AllZip, filter_map, list_any, sum_by}
-use Rattle.std.proofs.lemmas.Bool.{ltb-false, ltb-true, ne_eqb}
-use Rattle.std.proofs.lemmas.List.{length-append, length-map, map-append}
+use Rattle.std.proofs.lemmas.Bool.{leb-true, ne_eqb}
+use Rattle.std.proofs.lemmas.List.{append_assoc, append-nil, length-append, length-map, map-append}
 use Rattle.std.proofs.lemmas.List.Elements.{All-cons, All-from_recursion}
 use Rattle.std.proofs.lemmas.List.Kept.{AllPairs-cons}
 use Rattle.std.proofs.lemmas.List.Sums.{sum_by-append, sum_by-cons}
@@ -39,11 +39,11 @@ use Rattle.pq_file.specs.Writable.{IsCell, IsShort}
 use Rattle.sheet_rows.specs.Sheets.{file_cell}
 use Rattle.cat_view.specs.Named.{NamedTable, NamedVersion}
 use Rattle.row_files.specs.Fresh.{AreColumns, AreFresh, HasOtherField, IsLaid, MayHold}
-use Rattle.row_files.specs.Growing.{AreTables, HasFields, HasOtherId, HasTables, IsSameTable, fresh_of, has_rows, is_some_row}
+use Rattle.row_files.specs.Growing.{AreTables, HasFields, HasOtherId, HasTables, IsSameTable, fresh_of, fresh_tables, has_rows, is_some_row}
 use Rattle.row_files.specs.Own.{IsEarlier}
 use Rattle.row_files.specs.Stages.{CanBeStaged, FreshTable}
 use Rattle.lake_model.proofs.GrowthLemmas.{left_laid}
-use Rattle.row_files.proofs.JoinLemmas.{same_self}
+use Rattle.row_files.proofs.JoinLemmas.{drafts_are, same_self}
 use Rattle.row_files.proofs.LaidLemmas.{kept, laid_twice}
 use Rattle.row_files.proofs.OwnLemmas.{turned}
 
@@ -407,3 +407,187 @@ module _ (table : Ref) (rows : List Cells) (most : ℕ) (d : Draft) (at : d.at �
 
   inserted_good : (n : ℕ) (q : Draft → Bool) (ds : List Draft) → find q ds ≡ Some d → AreGood most n ds → AreGood heavy n (map inserted_at ds)
   inserted_good n q ds found h = record { good = all_inserted ds (alone q ds d found h.differ) h.good; below = all_below n ds h.below; differ = all_differ ds h.differ }
+
+-- ---- the list
+
+more_good : (most more n : ℕ) (ds : List Draft) → most ≤ more → AreGood most n ds → AreGood more n ds
+more_good most more n ds le h = record { good = heavier most more ds le h.good; below = h.below; differ = h.differ }
+
+abbrev IsGoodWork : ℕ → Work → Type 0
+IsGoodWork most w = AreGood most w.created_tables w.tables
+
+step_good : (w : Work) (before : List Change) (c : Change) (most : ℕ) → IsGrowth c → IsSized c → Planned w c → IsGoodWork most w → IsGoodWork (most + r.change_weight w before c) (changed w c)
+step_good w before (change.CreateSchema name) most g sized planned h = more_good most (most + 0) w.created_tables w.tables (omega arith) h
+step_good w before (change.DropSchema schema) most g sized planned h = more_good most (most + 0) w.created_tables w.tables (omega arith) h
+step_good w before (change.CreateTable schema name columns) most g sized planned h =
+    let are : AreColumns (fields_from 1 columns) = subst AreColumns (sym (has_fields columns planned)) (created_columns columns planned sized.1) in
+    more_good most (most + 0) (w.created_tables + 1) (w.tables ++ created w.created_tables schema name columns ∷ []) (omega arith)
+    (created_good most w.created_tables w.tables schema name columns are h)
+step_good w before (change.DropTable table) most g sized planned h =
+    more_good most (most + 0) w.created_tables (filter (λ (d : Draft). not (is_ref d.at table)) w.tables) (omega arith)
+    (left_good most w.created_tables (λ (d : Draft). not (is_ref d.at table)) w.tables h)
+step_good w before (change.Insert table rows) most g sized planned h =
+    let d : Draft = planned.draft in
+    let good : IsGood most d = plan.found-has (IsGood most) planned.test w.tables d planned.found h.good in
+    let are : AllByRecursion (RowOf d.columns) (map (λ cells. Some (laid_cells d.columns cells)) rows) =
+    subst (λ rs. AllByRecursion (RowOf d.columns) (map (λ cells. Some (laid_cells d.columns cells)) rs)) (sym planned.rows_are)
+    (good_rows d.columns planned.given good.columns.differ planned.faultless (subst (AllByRecursion AreCells) planned.rows_are sized)) in
+    let found : r.draft_at w table ≡ Some d =
+    subst (λ a. find (λ (e : Draft). is_ref e.at a) w.tables ≡ Some d) planned.at (by_reference planned.test w.tables d planned.found h.differ) in
+    let weight : r.insert_weight rows (r.draft_at w table) ≡ sum_by row_weight (map (laid_cells d.columns) rows) = ap (r.insert_weight rows) found in
+    more_good (most + sum_by row_weight (map (laid_cells d.columns) rows)) (most + r.insert_weight rows (r.draft_at w table)) w.created_tables
+    (map (inserted_at table rows most d planned.at are) w.tables) (omega (arith, weight))
+    (inserted_good table rows most d planned.at are w.created_tables planned.test w.tables planned.found h)
+step_good w before (change.AddColumn table column) most g sized planned h = absurd g
+step_good w before (change.DropColumn table field) most g sized planned h = absurd g
+step_good w before (change.RenameColumn table field name) most g sized planned h = absurd g
+step_good w before (change.PromoteColumn table field ty) most g sized planned h = absurd g
+step_good w before (change.SetDefault table field v) most g sized planned h = absurd g
+step_good w before (change.Delete table rows) most g sized planned h = absurd g
+step_good w before (change.Update table rows set) most g sized planned h = absurd g
+step_good w before (change.Compact table) most g sized planned h = absurd g
+step_good w before (change.Flush table) most g sized planned h = absurd g
+
+all_good : (base : State) (before own : List Change) (most : ℕ) → FitsFrom base before own → AllByRecursion IsGrowth own → IsGoodWork most (worked base before)
+    → IsGoodWork (most + r.weight_from (worked base before) before own) (fold changed (worked base before) own)
+all_good base before [] most fits growth h = more_good most (most + 0) (worked base before).created_tables (worked base before).tables (omega arith) h
+all_good base before (c ∷ own) most fits growth h =
+    let w : Work = worked base before in
+    let next : worked base (before ++ c ∷ []) ≡ changed w c = worked-more base before c in
+    let one : IsGoodWork (most + r.change_weight w before c) (changed w c) = step_good w before c most growth.0 fits.1 (planned base before c growth.0 fits.0) h in
+    let rest = all_good base (before ++ c ∷ []) own (most + r.change_weight w before c) fits.2 growth.1 (subst (IsGoodWork (most + r.change_weight w before c)) (sym next) one) in
+    let there : IsGoodWork ((most + r.change_weight w before c) + r.weight_from (changed w c) (before ++ c ∷ []) own) (fold changed (changed w c) own) =
+    subst (λ v. IsGoodWork ((most + r.change_weight w before c) + r.weight_from v (before ++ c ∷ []) own) (fold changed v own)) next rest in
+    let last : Work = fold changed (changed w c) own in
+    more_good ((most + r.change_weight w before c) + r.weight_from (changed w c) (before ++ c ∷ []) own) (most + r.weight_from w before (c ∷ own)) last.created_tables last.tables (omega arith) there
+
+-- ---- its weight
+
+module _ (base : State) (own : List Change) where
+  abbrev HasRoom : Change → Type 0
+  HasRoom c = s.has_room base (own ++ c ∷ []) ≡ true
+
+  within_room : (q : Plan) → plan.Holds HasRoom (s.within base own q)
+  within_room (p.Refuse a) = plan.refuses HasRoom a
+  within_room (p.Leave a) = plan.leaves HasRoom a
+  within_room (p.Append c a) = go (s.has_room base (own ++ c ∷ [])) refl
+    where
+      go : (b : Bool) → s.has_room base (own ++ c ∷ []) ≡ b → plan.Holds HasRoom (s.within base own (p.Append c a))
+      go true e = rw e (plan.appends HasRoom c a e)
+      go false e = rw e (plan.refuses HasRoom _)
+
+  plan_room : (x : Stmt) → plan.Holds HasRoom (s.plan_of base own x)
+  plan_room x = go (s.is_mixed own x) refl
+    where
+      go : (b : Bool) → s.is_mixed own x ≡ b → plan.Holds HasRoom (s.plan_of base own x)
+      go true e = rw e (plan.refuses HasRoom _)
+      go false e = rw e (within_room (s.plan_in base.next_catalog (worked base own) x))
+
+one_room : (base : State) (before : List Change) (c : Change) → IsGrowth c → IsAllowed base before c → s.has_room base (before ++ c ∷ []) ≡ true
+one_room base before (change.CreateSchema name) g k = plan.appended-holds (HasRoom base before) _ _ k.answer k.plan_is (plan_room base before k.stmt)
+one_room base before (change.DropSchema schema) g k = plan.appended-holds (HasRoom base before) _ _ k.answer k.plan_is (plan_room base before k.stmt)
+one_room base before (change.CreateTable schema name columns) g k = plan.appended-holds (HasRoom base before) _ _ k.answer k.plan_is (plan_room base before k.stmt)
+one_room base before (change.DropTable table) g k = plan.appended-holds (HasRoom base before) _ _ k.answer k.plan_is (plan_room base before k.stmt)
+one_room base before (change.Insert table rows) g k = plan.appended-holds (HasRoom base before) _ _ k.answer k.plan_is (plan_room base before k.stmt)
+one_room base before (change.AddColumn table column) g k = absurd g
+one_room base before (change.DropColumn table field) g k = absurd g
+one_room base before (change.RenameColumn table field name) g k = absurd g
+one_room base before (change.PromoteColumn table field ty) g k = absurd g
+one_room base before (change.SetDefault table field v) g k = absurd g
+one_room base before (change.Delete table rows) g k = absurd g
+one_room base before (change.Update table rows set) g k = absurd g
+one_room base before (change.Compact table) g k = absurd g
+one_room base before (change.Flush table) g k = absurd g
+
+all_room : (base : State) (before own : List Change) → FitsFrom base before own → AllByRecursion IsGrowth own → r.own_weight base before ≤ MAX_TXN_WEIGHT → r.own_weight base (before ++ own) ≤ MAX_TXN_WEIGHT
+all_room base before [] fits growth light = subst (λ l. r.own_weight base l ≤ MAX_TXN_WEIGHT) (sym (append-nil before)) light
+all_room base before (c ∷ own) fits growth light =
+    let room : s.has_room base (before ++ c ∷ []) ≡ true = one_room base before c growth.0 fits.0 in
+    subst (λ l. r.own_weight base l ≤ MAX_TXN_WEIGHT) (append_assoc before (c ∷ []) own) (all_room base (before ++ c ∷ []) own fits.2 growth.1 (leb-true (r.own_weight base (before ++ c ∷ [])) MAX_TXN_WEIGHT room))
+
+-- ---- the base
+
+base_apart : (x : NamedTable) (ts : List Table) (xs : List NamedTable) → AllZip IsSameTable ts xs → All (HasOtherId x) xs
+    → AllByRecursion (λ (d : Draft). is_ref d.at (ref.Old x.id) ≡ false) (map drafted ts)
+base_apart x [] [] same others = tt
+base_apart x [] (y ∷ ys) same others = absurd same
+base_apart x (t ∷ ts) [] same others = absurd same
+base_apart x (t ∷ ts) (y ∷ ys) same others =
+    (ne_eqb t.id x.id (λ alike. others 0 y (omega arith) (sym alike ∙ same.0.id)), base_apart x ts ys same.1 (λ k d lt. others (suc k) d (omega (arith, lt))))
+
+base_good : (ts : List Table) (xs : List NamedTable) → AllZip IsSameTable ts xs → AllPairs HasOtherId xs → AllByRecursion (λ (x : NamedTable). AreColumns x.columns) xs → AreGood 0 0 (map drafted ts)
+base_good [] [] same ids columns = record { good = tt; below = tt; differ = tt }
+base_good [] (x ∷ xs) same ids columns = absurd same
+base_good (t ∷ ts) [] same ids columns = absurd same
+base_good (t ∷ ts) (x ∷ xs) same ids columns =
+    let rest = base_good ts xs same.1 (λ i j d lt within. ids (suc i) (suc j) d (omega (arith, lt)) (omega (arith, within))) columns.1 in
+    let others : All (HasOtherId x) xs = λ k d lt. ids 0 (suc k) d (omega arith) (omega (arith, lt)) in
+    record {
+      good = (record { columns = subst AreColumns (sym same.0.columns) columns.0; rows = tt; light = omega arith }, rest.good);
+      below = (tt, rest.below);
+      differ = (subst (λ id. AllByRecursion (λ (d : Draft). is_ref d.at (ref.Old id) ≡ false) (map drafted ts)) (sym same.0.id) (base_apart x ts xs same.1 others), rest.differ);
+    }
+
+-- ---- the whole
+
+rows_heavy : (rows : List Cells) → 16 * length rows ≤ sum_by row_weight rows
+rows_heavy [] = omega arith
+rows_heavy (cells ∷ rows) = omega (arith, rows_heavy rows, sum_by-cons row_weight cells rows)
+
+rows_of_left : (columns : List Column) (fresh : List (Option Cells)) → AllByRecursion (RowOf columns) fresh → AllByRecursion (IsGoodRow columns) (left fresh)
+rows_of_left columns [] all = tt
+rows_of_left columns (None ∷ fresh) all = rows_of_left columns fresh all.1
+rows_of_left columns (Some cells ∷ fresh) all = (all.0, rows_of_left columns fresh all.1)
+
+some_rows : (rows : List Cells) → is_some_row rows ≡ true → 1 ≤ length rows
+some_rows [] some = absurd cc
+some_rows (cells ∷ rows) some = omega arith
+
+can_stage : (most : ℕ) (d : Draft) → most ≤ MAX_TXN_WEIGHT → IsGood most d → has_rows (fresh_of d) ≡ true → CanBeStaged (fresh_of d)
+can_stage most d light good some =
+    let rows : All (IsGoodRow d.columns) (left d.fresh) = All-from_recursion (IsGoodRow d.columns) (left d.fresh) (rows_of_left d.columns d.fresh good.rows) in
+    record {
+      columns = good.columns;
+      rows = record {
+        some = some_rows (left d.fresh) some;
+        few = omega (arith, rows_heavy (left d.fresh), good.light, light);
+        laid = λ k c lt. (rows k c lt).laid;
+        fit = λ k c lt i cells within. (rows i cells within).fit k c lt;
+        light = omega (arith, good.light, light);
+      };
+    }
+
+all_can : (most : ℕ) (ds : List Draft) → most ≤ MAX_TXN_WEIGHT → AllByRecursion (IsGood most) ds → AllByRecursion CanBeStaged (filter has_rows (map fresh_of ds))
+all_can most [] light all = tt
+all_can most (d ∷ ds) light all = go (has_rows (fresh_of d)) refl (all_can most ds light all.1)
+  where
+    go : (b : Bool) → has_rows (fresh_of d) ≡ b → AllByRecursion CanBeStaged (filter has_rows (map fresh_of ds)) → AllByRecursion CanBeStaged (filter has_rows (map fresh_of (d ∷ ds)))
+    go true e more = rw e (can_stage most d light all.0 e, more)
+    go false e more = rw e more
+
+pub can_be_staged : (v : NamedVersion) (state : State) (own : List Change) → AllByRecursion IsGrowth own → AreTables v.tables → HasTables v state → Fits state own → All CanBeStaged (fresh_tables v own)
+can_be_staged v state own growth tables same fits =
+    let good = all_good state [] own 0 fits growth (base_good state.tables v.tables same tables.ids tables.columns) in
+    let light : r.own_weight state own ≤ MAX_TXN_WEIGHT = all_room state [] own fits growth (omega arith) in
+    subst (λ ts. All CanBeStaged (filter has_rows ts)) (drafts_are v state own growth same)
+    (All-from_recursion CanBeStaged (filter has_rows (map fresh_of (worked state own).tables)) (all_can (0 + r.own_weight state own) (worked state own).tables (omega (arith, light)) good.good))
+
+fields_of : (base : State) (before : List Change) (c : Change) → IsGrowth c → IsAllowed base before c → HasFields c
+fields_of base before (change.CreateTable schema name columns) g k = has_fields columns (planned base before (change.CreateTable schema name columns) g k)
+fields_of base before (change.CreateSchema name) g k = tt
+fields_of base before (change.DropSchema schema) g k = tt
+fields_of base before (change.DropTable table) g k = tt
+fields_of base before (change.Insert table rows) g k = tt
+fields_of base before (change.AddColumn table column) g k = tt
+fields_of base before (change.DropColumn table field) g k = tt
+fields_of base before (change.RenameColumn table field name) g k = tt
+fields_of base before (change.PromoteColumn table field ty) g k = tt
+fields_of base before (change.SetDefault table field v) g k = tt
+fields_of base before (change.Delete table rows) g k = tt
+fields_of base before (change.Update table rows set) g k = tt
+fields_of base before (change.Compact table) g k = tt
+fields_of base before (change.Flush table) g k = tt
+
+pub all_fields : (base : State) (before own : List Change) → FitsFrom base before own → AllByRecursion IsGrowth own → AllByRecursion HasFields own
+all_fields base before [] fits growth = tt
+all_fields base before (c ∷ own) fits growth = (fields_of base before c growth.0 fits.0, all_fields base (before ++ c ∷ []) own fits.2 growth.1)

@@ -9,7 +9,7 @@ ghost use Rattle.lake_model.specs.State.{State};
 ghost use Rattle.cat_view.specs.Staged.{IsStaged};
 ghost use Rattle.cat_view.specs.Views.{named_tables, named_view};
 ghost use Rattle.row_files.specs.Folders.{files_of};
-ghost use Rattle.row_files.specs.Growing.{AreTables, HasFields, HasTables, fresh_tables};
+ghost use Rattle.row_files.specs.Growing.{AreTables, HasTables, fresh_tables};
 ghost use Rattle.row_files.specs.Own as own_spec;
 ghost use Rattle.row_files.specs.Stages as spec;
 ghost use Rattle.row_files.specs.Staging.{named_file};
@@ -197,8 +197,7 @@ pub fn stage<D: FileDisk, N: Names>(
 ) -> Result<Staged<D::File>, StageNo>
     requires growth { AllByRecursion IsGrowth txn.now.own }
     requires tables { AreTables (named_view D.File.name view.now).tables }
-    requires fields { AllByRecursion HasFields txn.now.own }
-    requires can { All spec.CanBeStaged (fresh_tables (named_view D.File.name view.now) txn.now.own) }
+    requires fits { (state : State) × HasTables (named_view D.File.name view.now) state × Fits state txn.now.own }
     ensures staged { IfOk result (λ staged. spec.StagesTables D.File.name D.File.size D.File.bytes
         (fresh_tables (named_view D.File.name view.now) txn.now.own)
         (N.drawn names.old) (N.drawn names.new) (D.files disk.old) (D.files disk.new)
