@@ -1,15 +1,15 @@
 -- The fresh rows that a list leaves which a transaction may have can stand in files.
-use Rattle.std.proofs.Common.{◌≡◌, ◌≢◌, ℕ, zero, suc, ◌+◌, ◌*◌, ◌<◌, ◌≤◌, ◌==◌, ◌&&◌, ◌||◌, not, nat_lt, nat_le, ◌++◌, Bool, true, false, cond, List, [], ◌∷◌, length, map, filter, fold, get_or, All, AllPairs, Option, Some, None, option_map, find, refl, sym, ap, ap₂, subst, ◌∙◌, arith, true≢false}
-use Rattle.std.specs.List.{AllByRecursion, AllZip, filter_map, list_any, sum_by}
+use Rattle.std.proofs.Common.{◌≡◌, ◌≢◌, ℕ, zero, suc, ◌+◌, ◌*◌, ◌<◌, ◌≤◌, ◌==◌, not, nat_lt, ◌++◌, Bool, true, false, cond, List, [], ◌∷◌, length, map, filter, fold, get_or, All, AllPairs, Option, Some, None, find, refl, sym, ap, subst, ◌∙◌, arith, true≢false}
+use Rattle.std.specs.List.{AllByRecursion, AllZip, sum_by}
 use Rattle.std.proofs.lemmas.Bool.{leb-true, ne_eqb}
-use Rattle.std.proofs.lemmas.List.{append_assoc, append-nil, length-append, length-map, map-append}
+use Rattle.std.proofs.lemmas.List.{append_assoc, append-nil}
 use Rattle.std.proofs.lemmas.List.Elements.{All-cons, All-from_recursion}
 use Rattle.std.proofs.lemmas.List.Kept.{AllPairs-cons}
 use Rattle.std.proofs.lemmas.List.Sums.{sum_by-append, sum_by-cons}
-use Rattle.lake_types.specs.Cells.{cell_at, laid_cells}
+use Rattle.lake_types.specs.Cells.{laid_cells}
 use Rattle.lake_types.specs.Fits.{fits}
 use Rattle.lake_types.specs.Weights.{row_weight}
-use Rattle.lake_types.specs.declared.limits.TheConstants.{MAX_CELL_BYTES, MAX_COLUMNS, MAX_FIELD, MAX_FILE_ROWS, MAX_NAME_BYTES, MAX_TXN_WEIGHT}
+use Rattle.lake_types.specs.declared.limits.TheConstants.{MAX_CELL_BYTES, MAX_COLUMNS, MAX_FIELD, MAX_NAME_BYTES, MAX_TXN_WEIGHT}
 use Rattle.lake_types.specs.declared.stmt.Alter.{Alter}
 use Rattle.lake_types.specs.declared.stmt.Alter.TheVariants as alter
 use Rattle.lake_types.specs.declared.stmt.Cell.{Cell}
@@ -20,8 +20,8 @@ use Rattle.lake_types.specs.declared.value.Column.{Column}
 use Rattle.lake_types.specs.declared.value.Value.{Value}
 use Rattle.lake_types.specs.declared.value.Value.TheVariants as value
 use Rattle.lake_types.specs.Cells.{column_named}
-use Rattle.lake_model.specs.Apply.{Cells, Draft, Work, begun, changed, created, drafted, fields_from, is_ref, left, with_rows, worked}
-use Rattle.lake_model.specs.Fits.{AreCells, Fits, FitsFrom, IsAllowed, IsAtMost, IsColumn, IsName, IsSized}
+use Rattle.lake_model.specs.Apply.{Cells, Draft, Work, changed, created, drafted, fields_from, is_ref, left, with_rows, worked}
+use Rattle.lake_model.specs.Fits.{AreCells, Fits, FitsFrom, IsAllowed, IsAtMost, IsColumn, IsSized}
 use Rattle.lake_model.specs.Growth.{IsGrowth}
 use Rattle.lake_model.specs.Plans as p
 use Rattle.lake_model.specs.Plans.{Plan, columns_from, or_else, refused_if, unless}
@@ -36,12 +36,11 @@ use Rattle.lake_model.specs.declared.change.Ref.TheVariants as ref
 use Rattle.lake_model.proofs.FieldLemmas.{worked-more}
 use Rattle.lake_model.proofs.PlanLemmas as plan
 use Rattle.pq_file.specs.Writable.{IsCell, IsShort}
-use Rattle.sheet_rows.specs.Sheets.{file_cell}
 use Rattle.cat_view.specs.Named.{NamedTable, NamedVersion}
-use Rattle.row_files.specs.Fresh.{AreColumns, AreFresh, HasOtherField, IsLaid, MayHold}
+use Rattle.row_files.specs.Fresh.{AreColumns, HasOtherField, IsLaid, MayHold}
 use Rattle.row_files.specs.Growing.{AreTables, HasFields, HasOtherId, HasTables, IsSameTable, fresh_of, fresh_tables, has_rows, is_some_row}
 use Rattle.row_files.specs.Own.{IsEarlier}
-use Rattle.row_files.specs.Stages.{CanBeStaged, FreshTable}
+use Rattle.row_files.specs.Stages.{CanBeStaged}
 use Rattle.lake_model.proofs.GrowthLemmas.{left_laid}
 use Rattle.row_files.proofs.JoinLemmas.{drafts_are, same_self}
 use Rattle.row_files.proofs.LaidLemmas.{kept, laid_twice}

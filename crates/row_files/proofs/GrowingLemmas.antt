@@ -1,12 +1,12 @@
 -- The jobs of a list that only creates, drops and inserts are its tables with fresh rows.
-use Rattle.std.proofs.Common.{◌≡◌, ℕ, suc, ◌+◌, ◌<◌, ◌++◌, ◌&&◌, ◌||◌, not, Bool, true, false, cond, List, [], ◌∷◌, append_assoc, append-nil, length, map, filter, Option, Some, None, option_map, refl, sym, ap, ap₂, subst, ◌∙◌, arith, if◌then◌else◌}
-use Rattle.std.specs.List.{AllByRecursion, flat_map, list_any, slice_get}
+use Rattle.std.proofs.Common.{◌≡◌, ℕ, ◌+◌, ◌++◌, ◌&&◌, ◌||◌, not, Bool, true, false, cond, List, [], ◌∷◌, append_assoc, length, map, filter, Option, Some, None, refl, sym, ap, ap₂, subst, ◌∙◌, if◌then◌else◌}
+use Rattle.std.specs.List.{AllByRecursion, slice_get}
 use Rattle.std.specs.Option.{option_map_or}
 use Rattle.std.proofs.lemmas.List.{length-append, map-append}
 use Rattle.std.proofs.lemmas.List.Elements.{filter-append}
 use Rattle.lake_types.specs.Cells.{laid_cells}
 use Rattle.lake_types.specs.declared.value.Column.{Column}
-use Rattle.lake_model.specs.Apply.{Cells, Draft, created, fields_from, is_ref, left, with_rows}
+use Rattle.lake_model.specs.Apply.{Cells, Draft, created, fields_from}
 use Rattle.lake_model.specs.Growth.{IsGrowth, inserted_into, made_tables, rows_for, with_own_rows}
 use Rattle.lake_model.specs.Kinds.{drops_table}
 use Rattle.lake_model.specs.declared.change.Change.{Change}
@@ -15,8 +15,8 @@ use Rattle.lake_model.specs.declared.change.Ref.{Ref}
 use Rattle.lake_model.specs.declared.change.Ref.TheVariants as ref
 use Rattle.lake_model.proofs.GrowthLemmas.{left_laid}
 use Rattle.cat_view.specs.Named.{NamedTable, NamedVersion}
-use Rattle.row_files.specs.Growing.{HasFields, fresh_of, fresh_of_old, fresh_tables, has_rows, is_some_row, tables_left}
-use Rattle.row_files.specs.Own.{AreMade, ComesTo, Continues, any_row, columns_at, created_columns, creates_table, fresh_at, fresh_job, inserted_rows, inserts_into, inserts_of, is_dropped, job_if, made_jobs, needs_file, old_jobs, own_rows, places_from, rows_at}
+use Rattle.row_files.specs.Growing.{HasFields, fresh_of, fresh_of_old, fresh_tables, has_rows, is_some_row}
+use Rattle.row_files.specs.Own.{AreMade, ComesTo, Continues, any_row, columns_at, created_columns, fresh_job, inserted_rows, inserts_into, inserts_of, is_dropped, job_if, made_jobs, needs_file, old_jobs, own_rows, places_from, rows_at}
 use Rattle.row_files.specs.Stages.{FreshTable}
 use Rattle.row_files.specs.declared.jobs.Job.{Job}
 use Rattle.row_files.specs.declared.own.OwnTable.{OwnTable}

@@ -1,11 +1,10 @@
 -- What is staged for the tables with fresh rows is what a growing list needs.
-use Rattle.std.proofs.Common.{◌≡◌, ◌≢◌, ℕ, suc, ◌+◌, ◌<◌, ◌≤◌, ◌==◌, ◌&&◌, ◌||◌, not, ◌++◌, Bool, true, false, cond, List, [], ◌∷◌, length, map, filter, get_or, All, AllPairs, Option, Some, None, IfSome, option_map, unwrap_or, find, refl, sym, ap, ap₂, subst, ◌∙◌, arith, true≢false}
+use Rattle.std.proofs.Common.{◌≡◌, ℕ, suc, ◌+◌, ◌<◌, ◌&&◌, ◌||◌, not, ◌++◌, Bool, true, false, cond, List, [], ◌∷◌, map, filter, All, AllPairs, Option, Some, None, IfSome, unwrap_or, find, refl, sym, ap, ap₂, subst, ◌∙◌, arith}
 use Rattle.std.specs.List.{AllByRecursion, AllZip, cons_option, filter_map, list_any}
 use Rattle.std.proofs.lemmas.Bool.{ne_eqb}
 use Rattle.std.proofs.lemmas.List.{map-append}
 use Rattle.lake_types.specs.Cells.{laid_cells}
-use Rattle.lake_types.specs.declared.value.Column.{Column}
-use Rattle.lake_model.specs.Apply.{Cells, Draft, created, drafted, is_ref, left, worked}
+use Rattle.lake_model.specs.Apply.{Cells, Draft, drafted, is_ref, worked}
 use Rattle.lake_model.specs.ByTable.{draft_after, made_from}
 use Rattle.lake_model.specs.Growth.{IsGrowth, made_tables, rows_for, with_own_rows}
 use Rattle.lake_model.specs.Fits.{Fits}
@@ -18,13 +17,12 @@ use Rattle.lake_model.specs.declared.change.Ref.TheVariants as ref
 use Rattle.lake_model.proofs.ApplyLemmas.{by_table}
 use Rattle.lake_model.proofs.GrowthLemmas.{grows, left_laid, made-tables}
 use Rattle.file_disk.specs.Folder.{Changes, Folder}
-use Rattle.cat_view.specs.Files.{Files}
 use Rattle.cat_view.specs.Named.{NamedTable, NamedVersion}
-use Rattle.cat_view.specs.Staged.{HoldsCells, IsStaged, IsStagedTable, MayHoldCells, NamedStagedFile, NamedStagedTable, are_apart, is_table, nothing_for, staged_for}
+use Rattle.cat_view.specs.Staged.{IsStaged, IsStagedTable, MayHoldCells, NamedStagedFile, NamedStagedTable, are_apart, is_table, nothing_for, staged_for}
 use Rattle.cat_view.specs.declared.staged.StagedTable.{StagedTable}
 use Rattle.row_files.specs.Folders.{files_of}
-use Rattle.row_files.specs.Growing.{AreTables, HasOtherId, HasTables, IsSameTable, fresh_of, fresh_of_old, fresh_tables, has_rows, is_some_row, tables_left}
-use Rattle.row_files.specs.Stages.{AddsTables, FreshTable, IsStagedFresh, StagesTables, named_table, named_tables, only_fresh}
+use Rattle.row_files.specs.Growing.{HasOtherId, HasTables, IsSameTable, fresh_of, fresh_of_old, fresh_tables, has_rows, is_some_row, tables_left}
+use Rattle.row_files.specs.Stages.{AddsTables, FreshTable, IsStagedFresh, StagesTables, named_table, named_tables}
 use Rattle.row_files.specs.Staging.{named_file}
 use Rattle.row_files.proofs.GrowthLemmas.{stages_growth}
 use Rattle.row_files.proofs.OwnLemmas.{turned}

@@ -1,18 +1,16 @@
 -- What is kept of each table while a list's changes are gone over.
-use Rattle.std.proofs.Common.{◌≡◌, ◌+◌, ◌<◌, ◌≤◌, ◌||◌, ◌==◌, ℕ, Bool, true, false, cond, List, [], ◌∷◌, ◌++◌, append_assoc, append-nil, length, drop, drop-cons, get_or, suc, Option, Some, None, refl, sym, ap, ap₂, subst, ◌∙◌, arith, if◌then◌else◌}
-use Rattle.std.specs.List.{list_any}
-use Rattle.std.proofs.lemmas.Bool.{eqb-true, ne_eqb}
+use Rattle.std.proofs.Common.{◌≡◌, ◌+◌, ◌<◌, ◌≤◌, ◌||◌, ℕ, Bool, true, false, cond, List, [], ◌∷◌, ◌++◌, append_assoc, append-nil, length, drop, drop-cons, get_or, suc, Option, Some, None, refl, sym, ap, ap₂, subst, ◌∙◌, arith, if◌then◌else◌}
+use Rattle.std.proofs.lemmas.Bool.{eqb-true}
 use Rattle.std.proofs.lemmas.List.{drop_all}
 use Rattle.lake_model.specs.Apply.{is_ref}
 use Rattle.lake_model.specs.Kinds.{drops_table, is_drop_of_table}
 use Rattle.lake_model.specs.declared.change.Change.{Change}
-use Rattle.lake_model.specs.declared.change.Change.TheVariants as change
 use Rattle.lake_model.specs.declared.change.Ref.{Ref}
 use Rattle.lake_model.specs.declared.change.Ref.TheVariants as ref
 use Rattle.indexmap.specs.IndexMap.{IndexMap, get}
 use Rattle.std.specs.Map.{lookup}
 use Rattle.lake_model.specs.contracts.change.RefPartialEq.TheImpl.{eq-value}
-use Rattle.row_files.specs.Own.{AreMade, ComesTo, Continues, IsEarlier, creates_table, inserts_into, inserts_of, is_dropped, next_table, places_from}
+use Rattle.row_files.specs.Own.{ComesTo, Continues, IsEarlier, creates_table, inserts_into, inserts_of, is_dropped, next_table, places_from}
 use Rattle.row_files.specs.declared.own.OwnTable.{OwnTable}
 
 -- ---- one table

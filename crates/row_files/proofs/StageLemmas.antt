@@ -1,11 +1,11 @@
 -- Tables that are staged one after the other.
 use Rattle.std.proofs.Common.{◌≡◌, ◌≢◌, ◌<◌, ◌≤◌, ◌^◌, ◌+◌, ◌++◌, ℕ, false, All, get_or, length, take, arith, List, [], ◌∷◌, map, append_assoc, Option, Some, None, IfNone, IfSome, IsSome, OnOk, Result, Ok, Err, option_map, inl, inr, refl, sym, ap, ap₂, subst, ◌∙◌, ◌⊎◌}
-use Rattle.std.specs.List.{AllByRecursion, AllZip, cons_option, filter_map}
+use Rattle.std.specs.List.{AllByRecursion, AllZip, cons_option}
 use Rattle.std.proofs.lemmas.List.{append-nil, get_or-map, length-map, map-append, take_all, take_more}
 use Rattle.lake_io.specs.Told.{Takes}
 use Rattle.lake_types.specs.declared.value.Column.{Column}
 use Rattle.lake_model.specs.Apply.{Cells}
-use Rattle.file_disk.specs.Folder.{AddsNone, Changes, Folder, MayBecomeAny, Same, SameBut, StaysIfThere, Touches}
+use Rattle.file_disk.specs.Folder.{Changes, Folder, MayBecomeAny, Same, SameBut, StaysIfThere, Touches}
 use Rattle.new_files.specs.Drawing.{Drew}
 use Rattle.new_files.specs.Names.{name_of}
 use Rattle.cat_view.specs.Files.{Filed}
@@ -13,7 +13,7 @@ use Rattle.cat_view.specs.Staged.{HoldsCells, NamedStagedFile}
 use Rattle.cat_view.specs.declared.staged.StagedFile.{StagedFile}
 use Rattle.cat_view.specs.declared.staged.StagedTable.{StagedTable}
 use Rattle.row_files.specs.Folders.{filed, files_of}
-use Rattle.row_files.specs.Stages.{AddsFresh, AddsTables, CanBeStaged, ComesFromThese, DrewThese, EndsAtTaken, FreshTable, IfTakenBy, IsOther, IsStagedFresh, SameButThese, StagesMore, StagesTables, Stays, TouchesThese, WroteThese, fresh_names, named_table, only_fresh}
+use Rattle.row_files.specs.Stages.{AddsFresh, AddsTables, CanBeStaged, DrewThese, EndsAtTaken, FreshTable, IfTakenBy, IsOther, IsStagedFresh, SameButThese, StagesMore, StagesTables, Stays, TouchesThese, WroteThese, fresh_names, named_table, only_fresh}
 use Rattle.row_files.specs.Staging.{AddsRows, WroteNone, WroteOne, named_file}
 use Rattle.row_files.specs.declared.fault.StageNo.{StageNo}
 use Rattle.row_files.specs.declared.fault.StageNo.TheVariants as stage_no

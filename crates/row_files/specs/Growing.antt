@@ -1,5 +1,5 @@
 -- The fresh rows that a list leaves which only creates, drops and inserts, table by table.
-use Rattle.std.specs.Prelude.{◌≡◌, ◌≢◌, not, ℕ, Bool, true, false, List, [], ◌∷◌, ◌++◌, AllPairs, filter, map}
+use Rattle.std.specs.Prelude.{◌≡◌, ◌≢◌, not, Bool, true, false, List, [], ◌∷◌, ◌++◌, AllPairs, filter, map}
 use Rattle.std.specs.List.{AllByRecursion, AllZip}
 use Rattle.lake_types.specs.Cells.{laid_cells}
 use Rattle.lake_model.specs.Apply.{Cells, Draft, fields_from, left}

@@ -1,5 +1,5 @@
 -- The fresh rows of several tables, staged one after the other.
-use Rattle.std.specs.Prelude.{◌≡◌, ◌≢◌, ◌<◌, ◌^◌, ◌⊎◌, ℕ, false, List, [], ◌∷◌, ◌++◌, map, Option, Some, None, IfSome, IsSome, option_map, Result, Ok, Err}
+use Rattle.std.specs.Prelude.{◌≡◌, ◌≢◌, ◌<◌, ◌^◌, ℕ, false, List, [], ◌∷◌, ◌++◌, map, Option, Some, None, IfSome, IsSome, option_map, Result, Ok, Err}
 use Rattle.std.specs.List.{AllByRecursion, AllZip, filter_map}
 use Rattle.lake_io.specs.Told.{Takes}
 use Rattle.lake_types.specs.declared.value.Column.{Column}

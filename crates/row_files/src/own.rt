@@ -46,12 +46,7 @@ fn taken(alloc: Global, tables: &mut OwnTables, at: Ref) -> Result<OwnTable, NoM
 }
 
 /// Keeps that the change at a place inserts into a table.
-fn add_insert(
-    alloc: Global,
-    tables: &mut OwnTables,
-    at: Ref,
-    place: usize,
-) -> Result<(), NoMemory>
+fn add_insert(alloc: Global, tables: &mut OwnTables, at: Ref, place: usize) -> Result<(), NoMemory>
     ensures inserts { OnOk result ((q : RefOf) → spec.inserts_of (get is_ref tables.new q)
         ≡ spec.inserts_of (get is_ref tables.old q) ++ (if is_ref q at then place ∷ [] else [])) }
     ensures dropped { OnOk result ((q : RefOf) → spec.is_dropped (get is_ref tables.new q)

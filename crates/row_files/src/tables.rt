@@ -173,7 +173,16 @@ fn stage_jobs<D: FileDisk, N: Names>(
     for job in jobs {
         let columns = columns_of(tables, own, *job);
         let places = places_of(kept, job.table);
-        match stage_table(alloc, disk, names, &mut staged, job.table, columns, own, places) {
+        match stage_table(
+            alloc,
+            disk,
+            names,
+            &mut staged,
+            job.table,
+            columns,
+            own,
+            places,
+        ) {
             Ok(()) => {}
             Err(why) => return Err(why),
         }
@@ -205,7 +214,7 @@ pub fn stage<D: FileDisk, N: Names>(
     ensures stands { IfOk result (λ staged. IfSome (D.files disk.new) (λ folder. (state : State)
         → HasTables (named_view D.File.name view.now) state → Fits state txn.now.own
         → IsStaged (files_of folder) (named_view D.File.name view.now) state txn.now.own
-            (spec.named_tables D.File.name D.File.size staged.tables.items))) }
+        (spec.named_tables D.File.name D.File.size staged.tables.items))) }
 
     ensures taken { spec.IfTakenName result (spec.EndsAtTaken (N.drawn names.old) (N.drawn names.new)
         (D.files disk.old) (D.files disk.new)) }

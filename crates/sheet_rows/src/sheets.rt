@@ -43,12 +43,13 @@ pub fn add_cells(
     column: &Column,
     rows: &[CellValues],
 ) -> Result<(), NoMemory>
-    ensures { OnOk result (made.new ≡ record made.old { cells = made.old.cells ++ map (spec.file_cell column.now)
-        rows.now }) }
+    ensures { OnOk result (made.new ≡ record made.old {
+      cells = made.old.cells ++ map (spec.file_cell column.now)
+          rows.now;
+    }) }
 {
     for row in rows {
-        made.cells
-            .push(file_cell(alloc, column, row.as_slice())?)?;
+        made.cells.push(file_cell(alloc, column, row.as_slice())?)?;
     }
     Ok(())
 }

@@ -1,5 +1,4 @@
-use Rattle.std.proofs.Common.{ap, sym, ◌∙◌}
-use Rattle.row_files.specs.Folders.{sheet_in}
+use Rattle.std.proofs.Common.{sym, ◌∙◌}
 use Rattle.row_files.specs.Own.{laid_rows, own_rows}
 use Rattle.row_files.proofs.FreshLemmas.{fits_columns, too_heavy, writes}
 use Rattle.row_files.proofs.LaidLemmas.{sheet_laid}

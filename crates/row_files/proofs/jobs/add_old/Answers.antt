@@ -1,4 +1,4 @@
-use Rattle.std.proofs.Common.{◌≡◌, ◌∙◌, ap, get_or, rules}
+use Rattle.std.proofs.Common.{rules}
 use Rattle.indexmap.specs.IndexMap.{get}
 use Rattle.lake_model.specs.Apply.{is_ref}
 use Rattle.row_files.proofs.JobLemmas.{old_more}

@@ -1,4 +1,4 @@
-use Rattle.std.proofs.Common.{◌≤◌, List, Option, None, drop}
+use Rattle.std.proofs.Common.{◌≤◌, Option, None, drop}
 use Rattle.indexmap.specs.IndexMap.{get}
 use Rattle.lake_model.specs.Apply.{is_ref}
 use Rattle.lake_model.specs.declared.change.Ref.{Ref}

@@ -21,7 +21,7 @@ returns-in-Ok-stage_jobs-clause-staged g c =
     let h = g.D.File.Held in
     let d = g.D.FileDisk in
     subst (λ ts. StagesTables h.name h.size h.bytes ts (g.N.Names.drawn c.args.names.now) (g.N.Names.drawn c.stage_jobs.new.names) (d.files c.args.disk.now) (d.files c.stage_jobs.new.disk)
-        (d.images c.args.disk.now) (d.images c.stage_jobs.new.disk) c.in-Ok-stage_jobs.staged.items)
+    (d.images c.args.disk.now) (d.images c.stage_jobs.new.disk) c.in-Ok-stage_jobs.staged.items)
     (jobs_of_view (named_view h.name c.args.view.now) (named_tables h.name c.tables-tables.result.now) c.args.txn.now.own c.as_slice-own.result.now (get is_ref c.in-Ok.kept) c.as_slice.result.now c.tables-tables.ensures
     c.as_slice-own.ensures (c.as_slice.ensures.value ∙ c.in-Ok-jobs_of.ensures) c.in-Ok.ensures c.requires.growth (all_fields c.requires.fits.0 [] c.args.txn.now.own c.requires.fits.2 c.requires.growth))
     c.in-Ok-stage_jobs.ensures.staged
@@ -33,7 +33,7 @@ returns-in-Ok-stage_jobs-clause-stands g c =
     stands h.name h.size h.bytes (named_view h.name c.args.view.now) c.args.txn.now.own (g.N.Names.drawn c.args.names.now) (g.N.Names.drawn c.stage_jobs.new.names) (d.files c.args.disk.now) (d.files c.stage_jobs.new.disk)
     (d.images c.args.disk.now) (d.images c.stage_jobs.new.disk) c.in-Ok-stage_jobs.staged.items c.requires.growth c.requires.tables.ids
     (subst (λ ts. StagesTables h.name h.size h.bytes ts (g.N.Names.drawn c.args.names.now) (g.N.Names.drawn c.stage_jobs.new.names) (d.files c.args.disk.now) (d.files c.stage_jobs.new.disk)
-        (d.images c.args.disk.now) (d.images c.stage_jobs.new.disk) c.in-Ok-stage_jobs.staged.items)
+    (d.images c.args.disk.now) (d.images c.stage_jobs.new.disk) c.in-Ok-stage_jobs.staged.items)
     (jobs_of_view (named_view h.name c.args.view.now) (named_tables h.name c.tables-tables.result.now) c.args.txn.now.own c.as_slice-own.result.now (get is_ref c.in-Ok.kept) c.as_slice.result.now c.tables-tables.ensures
     c.as_slice-own.ensures (c.as_slice.ensures.value ∙ c.in-Ok-jobs_of.ensures) c.in-Ok.ensures c.requires.growth (all_fields c.requires.fits.0 [] c.args.txn.now.own c.requires.fits.2 c.requires.growth))
     c.in-Ok-stage_jobs.ensures.staged)
