@@ -1,7 +1,7 @@
 -- The fresh rows that a list leaves which a transaction may have can stand in files.
 use Rattle.std.proofs.Common.{◌≡◌, ◌≢◌, ℕ, zero, suc, ◌+◌, ◌*◌, ◌<◌, ◌≤◌, ◌==◌, not, nat_lt, ◌++◌, Bool, true, false, cond, List, [], ◌∷◌, length, map, filter, fold, get_or, All, AllPairs, Option, Some, None, find, refl, sym, ap, subst, ◌∙◌, arith, true≢false}
 use Rattle.std.specs.List.{AllByRecursion, AllZip, sum_by}
-use Rattle.std.proofs.lemmas.Bool.{leb-true, ne_eqb}
+use Rattle.std.proofs.lemmas.Bool.{leb-true, ne_eqb, not-false}
 use Rattle.std.proofs.lemmas.List.{append_assoc, append-nil}
 use Rattle.std.proofs.lemmas.List.Elements.{All-cons, All-from_recursion}
 use Rattle.std.proofs.lemmas.List.Kept.{AllPairs-cons}
@@ -43,7 +43,7 @@ use Rattle.row_files.specs.Own.{IsEarlier}
 use Rattle.row_files.specs.Stages.{CanBeStaged}
 use Rattle.lake_model.proofs.GrowthLemmas.{left_laid}
 use Rattle.row_files.proofs.JoinLemmas.{drafts_are, same_self}
-use Rattle.row_files.proofs.LaidLemmas.{kept, laid_twice}
+use Rattle.row_files.proofs.LaidLemmas.{kept, laid_twice, same_number}
 use Rattle.row_files.proofs.OwnLemmas.{turned}
 
 -- ---- faults that don't stand
@@ -55,10 +55,6 @@ first_none (Some a) b none = absurd cc
 not_refused : (b : Bool) (a : Answer) → refused_if b a ≡ None → b ≡ false
 not_refused true a none = absurd cc
 not_refused false a none = refl
-
-not_not : (b : Bool) → not b ≡ false → b ≡ true
-not_not true e = refl
-not_not false e = absurd cc
 
 unless_none : (K : Change → Type 0) (f : Option Answer) (q : Plan) → (f ≡ None → plan.Holds K q) → plan.Holds K (unless f q)
 unless_none K None q h = h refl
@@ -148,14 +144,6 @@ planned base before (change.Flush table) g k = absurd g
 
 -- ---- created columns
 
-from_defs : (k : ℕ) (defs : List ColumnDef) → fields_from k (columns_from k defs) ≡ columns_from k defs
-from_defs k [] = refl
-from_defs k (def ∷ defs) = ap (λ cs. p.column_of k def ∷ cs) (from_defs (k + 1) defs)
-
-count_defs : (k : ℕ) (defs : List ColumnDef) → length (columns_from k defs) ≡ length defs
-count_defs k [] = refl
-count_defs k (def ∷ defs) = ap suc (count_defs (k + 1) defs)
-
 fields_past : (k n : ℕ) (defs : List ColumnDef) → n < k → All (λ (c : Column). n ≢ c.field) (columns_from k defs)
 fields_past k n [] lt = λ i d within. absurd (omega (arith, within))
 fields_past k n (def ∷ defs) lt =
@@ -176,14 +164,14 @@ names_short (c ∷ columns) all = All-cons (λ (x : Column). length x.name ≤ M
 
 created_columns : (columns : List Column) → PlannedColumns columns → AllByRecursion IsColumn columns → AreColumns columns
 created_columns columns planned sized = record {
-  few = omega (arith, ap length planned.are, count_defs 1 planned.defs, planned.few);
+  few = omega (arith, ap length planned.are, plan.columns-length 1 planned.defs, planned.few);
   names = names_short columns sized;
   fields = subst (All (λ (c : Column). c.field < MAX_FIELD)) (sym planned.are) (fields_small 1 planned.defs (omega (arith, planned.few)));
   differ = subst (AllPairs HasOtherField) (sym planned.are) (fields_apart 1 planned.defs);
 }
 
 has_fields : (columns : List Column) → PlannedColumns columns → fields_from 1 columns ≡ columns
-has_fields columns planned = ap (fields_from 1) planned.are ∙ from_defs 1 planned.defs ∙ sym planned.are
+has_fields columns planned = ap (fields_from 1) planned.are ∙ plan.fields-are 1 planned.defs ∙ sym planned.are
 
 -- ---- cells of a row
 
@@ -196,10 +184,7 @@ short_cell (value.Int n) h = tt
 short_cell (value.Date d) h = tt
 
 cell_fits : (c : Column) (x : Cell) → r.cell_fault c x ≡ None → fits (r.given c x) c.ty ≡ true
-cell_fits c x none = not_not (fits (r.given c x) c.ty) (not_refused (not (fits (r.given c x) c.ty)) _ (first_none _ _ none).0)
-
-same_number : (n : ℕ) → (n == n) ≡ true
-same_number n = search arith
+cell_fits c x none = not-false (fits (r.given c x) c.ty) (not_refused (not (fits (r.given c x) c.ty)) _ (first_none _ _ none).0)
 
 row_fits : (columns : List Column) (row : List Cell) → AllPairs HasOtherField columns → length columns ≡ length row → r.cells_fault columns row ≡ None → AreCells (r.cells_of columns row)
     → All (λ c. MayHold c (r.cells_of columns row)) columns
@@ -233,7 +218,7 @@ good_row : (columns : List Column) (row : List Cell) → AllPairs HasOtherField 
     → IsGoodRow columns (laid_cells columns (r.cells_of columns row))
 good_row columns row apart none sized =
     let both = first_none _ (r.cells_fault columns row) none in
-    let alike : (length columns == length row) ≡ true = not_not (length columns == length row) (not_refused _ _ both.0) in
+    let alike : (length columns == length row) ≡ true = not-false (length columns == length row) (not_refused _ _ both.0) in
     let fit = row_fits columns row apart (grind (arith, alike)) both.1 sized in
     record {
       laid = laid_twice columns (r.cells_of columns row) apart;
@@ -419,7 +404,7 @@ step_good : (w : Work) (before : List Change) (c : Change) (most : ℕ) → IsGr
 step_good w before (change.CreateSchema name) most g sized planned h = more_good most (most + 0) w.created_tables w.tables (omega arith) h
 step_good w before (change.DropSchema schema) most g sized planned h = more_good most (most + 0) w.created_tables w.tables (omega arith) h
 step_good w before (change.CreateTable schema name columns) most g sized planned h =
-    let are : AreColumns (fields_from 1 columns) = subst AreColumns (sym (has_fields columns planned)) (created_columns columns planned sized.1) in
+    let are : AreColumns (fields_from 1 columns) = subst AreColumns (sym (has_fields columns planned)) (created_columns columns planned sized.2) in
     more_good most (most + 0) (w.created_tables + 1) (w.tables ++ created w.created_tables schema name columns ∷ []) (omega arith)
     (created_good most w.created_tables w.tables schema name columns are h)
 step_good w before (change.DropTable table) most g sized planned h =

@@ -15,7 +15,7 @@ use Rattle.row_files.specs.Own.{laid_rows, own_rows, rows_at}
 
 -- ---- a row that is laid has the same cells
 
-same_number : (n : ℕ) → (n == n) ≡ true
+pub same_number : (n : ℕ) → (n == n) ≡ true
 same_number n = search arith
 
 abbrev pub IsKept : List Column → Cells → Column → Type 0
