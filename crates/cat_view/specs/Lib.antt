@@ -12,3 +12,4 @@ pub mod Reading
 pub mod Views
 pub mod Building
 pub mod Staged
+pub mod StagedNames

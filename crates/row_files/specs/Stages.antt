@@ -9,8 +9,8 @@ use Rattle.file_disk.specs.Folder.{Changes, Folder, StaysIfThere}
 use Rattle.new_files.specs.Names.{name_of}
 use Rattle.new_files.specs.declared.fault.NewFileNo.{NewFileNo}
 use Rattle.new_files.specs.declared.fault.NewFileNo.TheVariants as new_file_no
-use Rattle.cat_view.specs.Staged.{HoldsCells, NamedStagedDelete, NamedStagedFile, NamedStagedTable, nothing_for}
-use Rattle.cat_view.specs.declared.staged.StagedDelete.{StagedDelete}
+use Rattle.cat_view.specs.Staged.{HoldsCells, NamedStagedFile, NamedStagedTable, nothing_for}
+pub use Rattle.cat_view.specs.StagedNames.{named_staged_table as named_table, named_staged_tables as named_tables}
 use Rattle.cat_view.specs.declared.staged.StagedFile.{StagedFile}
 use Rattle.cat_view.specs.declared.staged.StagedTable.{StagedTable}
 use Rattle.row_files.specs.Folders.{files_of}
@@ -46,25 +46,6 @@ pub record FreshTable : Type 0 where
 pub record CanBeStaged (t : FreshTable) : Type 0 where
   pub columns : AreColumns t.columns
   pub rows : AreFresh t.columns t.rows
-
-abbrev pub named_delete : {F : Type 0} → (F → List ℕ) → (F → ℕ) → StagedDelete F → NamedStagedDelete
-named_delete name size d = record { of_file = d.of_file; name = name d.file; size = size d.file; count = d.count }
-
-abbrev pub named_table : {F : Type 0} → (F → List ℕ) → (F → ℕ) → StagedTable F → NamedStagedTable
-named_table name size x = record {
-  table = x.table;
-  fresh = option_map (named_file name size) x.fresh;
-  updated = option_map (named_file name size) x.updated;
-  merged = map (named_file name size) x.merged.items;
-  ended_files = x.ended_files.items;
-  inlined = x.inlined;
-  inlined_fresh = x.inlined_fresh;
-  ended_rows = x.ended_rows.items;
-  deletes = map (named_delete name size) x.deletes.items;
-}
-
-abbrev pub named_tables : {F : Type 0} → (F → List ℕ) → (F → ℕ) → List (StagedTable F) → List NamedStagedTable
-named_tables name size staged = map (named_table name size) staged
 
 -- a table with one file of fresh rows, and nothing else
 abbrev pub only_fresh : Ref → NamedStagedFile → NamedStagedTable

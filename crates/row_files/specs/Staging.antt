@@ -7,12 +7,9 @@ use Rattle.file_disk.specs.Folder.{AddsNone, Changes, Folder, MayBecomeAny, Same
 use Rattle.new_files.specs.Drawing.{Drew}
 use Rattle.sheet_rows.specs.Sheets.{AreCounts, sheet_of, sheet_weight}
 use Rattle.cat_view.specs.Staged.{HoldsCells, NamedStagedFile}
+pub use Rattle.cat_view.specs.StagedNames.{named_staged_file as named_file}
 use Rattle.cat_view.specs.declared.staged.StagedFile.{StagedFile}
 use Rattle.row_files.specs.Folders.{files_of}
-
--- a staged file with its name and size
-abbrev pub named_file : {F : Type 0} → (F → List ℕ) → (F → ℕ) → StagedFile F → NamedStagedFile
-named_file name size x = record { name = name x.file; size = size x.file; rows = x.rows; weight = x.weight; stats = x.stats }
 
 -- what is said of a file of these rows
 pub record Describes {F : Type 0} (columns : List Column) (cells : List Cells) (x : StagedFile F) : Type 0 where
