@@ -1,7 +1,7 @@
-mod OrderLemmas
-mod VersionLemmas
-mod DraftLemmas
+pub mod OrderLemmas
+pub mod VersionLemmas
+pub mod DraftLemmas
 mod FitLemmas
-mod StagedLemmas
+pub mod StagedLemmas
 mod ExampleLemmas
-mod HeadLemmas
+pub mod HeadLemmas

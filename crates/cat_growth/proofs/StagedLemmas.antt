@@ -33,7 +33,7 @@ use Rattle.cat_growth.proofs.VersionLemmas.{made-have, versions-apply}
 
 -- ---- one file
 
-none_left : {X : Type 0} (place : ℕ) (xs : List X) → left_from place [] xs ≡ xs
+pub none_left : {X : Type 0} (place : ℕ) (xs : List X) → left_from place [] xs ≡ xs
 none_left place [] = refl
 none_left place (x ∷ xs) = ap (λ l. x ∷ l) (none_left (place + 1) xs)
 
@@ -70,7 +70,7 @@ module _ (at_staging : Files) (own : List Change) (version : NamedVersion) (d : 
 
 -- ---- a table for which nothing is staged
 
-find-none : {X : Type 0} (p : X → Bool) (xs : List X) → AllByRecursion (λ x. p x ≡ false) xs → find p xs ≡ None
+pub find-none : {X : Type 0} (p : X → Bool) (xs : List X) → AllByRecursion (λ x. p x ≡ false) xs → find p xs ≡ None
 find-none p [] h = refl
 find-none p (x ∷ xs) h = rw (h.0) (find-none p xs h.1)
 
@@ -99,7 +99,7 @@ module _ (base : State) (own : List Change) (id : ℕ) (lacks : Lacks base id) w
 
 -- ---- all tables
 
-staged-has : (P : NamedStagedTable → Type 0) (staged : List NamedStagedTable) (at : Ref) → AllByRecursion P staged → P (nothing_for at) → P (staged_for staged at)
+pub staged-has : (P : NamedStagedTable → Type 0) (staged : List NamedStagedTable) (at : Ref) → AllByRecursion P staged → P (nothing_for at) → P (staged_for staged at)
 staged-has P staged at h k = go (find (λ (x : NamedStagedTable). is_ref x.table at) staged) refl
   where
     go : (o : Option NamedStagedTable) → find (λ (x : NamedStagedTable). is_ref x.table at) staged ≡ o → P (staged_for staged at)
@@ -108,7 +108,7 @@ staged-has P staged at h k = go (find (λ (x : NamedStagedTable). is_ref x.table
 
 module _ (at_staging more : Files) (version : NamedVersion) (base : State) (own : List Change) (staged : List NamedStagedTable)
     (h : AreFilesStaged at_staging version base own staged) (extends : Extends at_staging more) where
-  abbrev IsHeld : Draft → Type 0
+  abbrev pub IsHeld : Draft → Type 0
   IsHeld d = MayHoldCells at_staging d.columns (staged_for staged d.at).fresh (left d.fresh)
 
   held-one : (d : Draft) → IsStagedTable at_staging own version d (staged_for staged d.at) → IsHeld d
@@ -121,7 +121,7 @@ module _ (at_staging more : Files) (version : NamedVersion) (base : State) (own 
   abbrev pub AreHeld : Type 0
   AreHeld = AllByRecursion (λ (t : Table). drops_table own (ref.Old t.id) ≡ false → IsHeld (with_own_rows own (drafted t))) base.tables × AllByRecursion IsHeld (made_tables 0 own)
 
-  are-held : AreHeld
+  pub are-held : AreHeld
   are-held = worked-hold IsHeld base own h.grows (held-all (worked base own).tables h.is_staged.tables)
 
   -- ---- a table of a head

@@ -127,10 +127,10 @@ module _ (s : State) (own : List Change) where
 
 -- ---- at the head
 
-old-new : (a p : ℕ) → ref.Old a ≡ ref.New p → ⊥
+pub old-new : (a p : ℕ) → ref.Old a ≡ ref.New p → ⊥
 old-new a p e = cc
 
-old-old : (a b : ℕ) → ref.Old a ≡ ref.Old b → a ≡ b
+pub old-old : (a b : ℕ) → ref.Old a ≡ ref.Old b → a ≡ b
 old-old a b e = cc
 
 true-false : (b : Bool) → b ≡ true → b ≡ false → ⊥

@@ -145,7 +145,7 @@ pub tables-of-made : (base : State) (own : List Change) → AllByRecursion IsGro
 tables-of-made base own growth d there =
     subst (λ l. In d l) (sym (by_table base own)) (in_right d (filter_map (draft_after own) (map drafted base.tables)) _ (subst (λ l. In d l) (sym (made-tables 0 own growth)) there))
 
-picked : {X Y : Type 0} (f : X → Option Y) (x : X) (y : Y) (xs : List X) → f x ≡ Some y → In x xs → In y (filter_map f xs)
+pub picked : {X Y : Type 0} (f : X → Option Y) (x : X) (y : Y) (xs : List X) → f x ≡ Some y → In x xs → In y (filter_map f xs)
 picked f x y [] e there = absurd there
 picked f x y (z ∷ xs) e (inl is) = let at : f z ≡ Some y = ap f is ∙ e in rw at (inl refl)
 picked f x y (z ∷ xs) e (inr later) = go (f z) refl (picked f x y xs e later)
