@@ -11,7 +11,7 @@ use Rattle.lake_model.specs.declared.change.Change.{Change}
 use Rattle.lake_model.specs.declared.change.Ref.{Ref}
 use Rattle.lake_rebase.specs.Laws.{IsFree}
 use Rattle.cat_rows.specs.Batches.{applied}
-use Rattle.cat_rows.specs.Parts.{ArePartsOf, Parts, batch_of}
+use Rattle.cat_rows.specs.Parts.{ArePartsOf, Parts}
 use Rattle.cat_rows.specs.Tables.{Tables}
 use Rattle.cat_rows.specs.declared.history.SnapshotRow.{SnapshotRow}
 use Rattle.cat_view.specs.Files.{Extends, Files}
@@ -21,15 +21,16 @@ use Rattle.cat_growth.specs.Fresh as fresh
 use Rattle.cat_growth.specs.Fresh.{AreFilesStaged}
 use Rattle.cat_growth.specs.Growth.{NewFiles, grown_version}
 use Rattle.commit_parts.specs.Commits.{HasBytes, endings_of}
+use Rattle.rebase.specs.Batch.{batch_at}
 use Rattle.rebase.specs.Parts.{FreshFile, first_row, fresh_files, old_stats, parts_of}
 
 -- the batch's parts, with the text of the list's kinds
 abbrev pub parts_at : Tables → SnapshotRow → State → ℤ → List Change → List NamedStagedTable → Parts
 parts_at t newest head time own staged = parts_of t newest time (changes_text (kinds head.schemas own)) own staged
 
--- the tables after it
+-- the tables after that batch
 abbrev pub committed : Tables → SnapshotRow → State → ℤ → List Change → List NamedStagedTable → Tables
-committed t newest head time own staged = applied (batch_of (parts_at t newest head time own staged)) t
+committed t newest head time own staged = applied (batch_at t newest time head.schemas own staged) t
 
 -- ---- the version after it
 
