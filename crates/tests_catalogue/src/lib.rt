@@ -1,7 +1,9 @@
-//! Tests of the catalogue's rules, of changes texts, of spans, of what a snapshot sees and of what a transaction adds
-//! to it. It has no other functions.
+//! Tests of the catalogue's rules, of changes texts, of spans, of what a snapshot sees, of what a transaction adds
+//! to it and of the batch of its commit. It has no other functions.
 #![tactic(auto)]
 
+#[cfg(test)]
+mod batch;
 #[cfg(test)]
 mod buffer;
 #[cfg(test)]

@@ -260,7 +260,7 @@ fn add_rows(alloc: Global, adds: &mut CatRowList) -> Result<(), NoMemory> {
 }
 
 /// The catalogue of all these rows, if they fit one.
-fn catalogue(alloc: Global) -> Result<Option<CatRows>, NoMemory> {
+pub fn catalogue(alloc: Global) -> Result<Option<CatRows>, NoMemory> {
     let mut adds = Listed::new(alloc);
     add_history(alloc, &mut adds)?;
     add_heads(alloc, &mut adds)?;
@@ -284,7 +284,7 @@ fn add_file(
 }
 
 /// The data file and the delete file.
-fn both_files(alloc: Global) -> Result<HeldFiles<MemFile>, NoMemory> {
+pub fn both_files(alloc: Global) -> Result<HeldFiles<MemFile>, NoMemory> {
     let calls = Vec::new(alloc);
     let mut disk = MemDisk::new(alloc, FailList { calls, from: None });
     let mut held = HeldFiles::new(alloc);
