@@ -13,7 +13,7 @@ use Rattle.cat_view.specs.Staged.{NamedStagedFile, NamedStagedTable, are_apart, 
 use Rattle.rebase.specs.Parts.{FreshFile, fresh_file, fresh_files}
 use Rattle.commit_parts.proofs.ListLemmas.{asc_two, in_picked}
 
-abbrev OtherTable : NamedStagedTable → NamedStagedTable → Type 0
+abbrev pub OtherTable : NamedStagedTable → NamedStagedTable → Type 0
 OtherTable s u = s.table ≢ u.table
 
 apart_all : (s : NamedStagedTable) (us : List NamedStagedTable) → list_any (λ (u : NamedStagedTable). is_ref u.table s.table) us ≡ false → AllByRecursion (OtherTable s) us
@@ -24,7 +24,7 @@ apart_all s (u ∷ us) e = go (is_ref u.table s.table) refl e (apart_all s us)
     go true is e more = absurd (true≢false e)
     go false is e more = ((λ same. true≢false (sym (ref-is u.table s.table (sym same)) ∙ is)), more e)
 
-apart_each : (staged : List NamedStagedTable) → are_apart staged ≡ true → IsAscending OtherTable staged
+pub apart_each : (staged : List NamedStagedTable) → are_apart staged ≡ true → IsAscending OtherTable staged
 apart_each [] e = tt
 apart_each (s ∷ staged) e = let both = and_parts _ _ e in (apart_all s staged (not-true _ both.0), apart_each staged both.1)
 

@@ -49,7 +49,7 @@ pub record IsTableOf (rows : Seen) (r : TableRow) (x : Table) : Type 0 where
   pub name : x.name ≡ r.table_name
   pub columns : AllZip IsColumnOf (column_rows r.table_id rows.column) x.columns
 
-zip_tables : (rows : Seen) (files : Files) (rs : List TableRow) (vs : List NamedTable) (xs : List Table) → AllZip (IsTableAt rows) rs vs → map uncounted_table xs ≡ map uncounted_table (map (named.table_of files) vs) → AllZip (IsTableOf rows) rs xs
+pub zip_tables : (rows : Seen) (files : Files) (rs : List TableRow) (vs : List NamedTable) (xs : List Table) → AllZip (IsTableAt rows) rs vs → map uncounted_table xs ≡ map uncounted_table (map (named.table_of files) vs) → AllZip (IsTableOf rows) rs xs
 zip_tables rows files [] [] [] h e = tt
 zip_tables rows files [] [] (x ∷ xs) h e = absurd cc
 zip_tables rows files [] (v ∷ vs) xs h e = absurd h

@@ -1,0 +1,3 @@
+mod RiseLemmas
+mod ApartLemmas
+mod FitLemmas

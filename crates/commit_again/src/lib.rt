@@ -1,0 +1,15 @@
+//! What a commit leaves for the next one. Each function's contract is a law, and its body is empty.
+#![tactic(auto)]
+
+ghost use Rattle.commit_again.specs.Laws.{BatchesFit, RowsRiseAfter};
+
+/// The rows of each table rise by key after a commit too.
+pub fn rows_rise_after()
+    ensures { RowsRiseAfter }
+{}
+
+/// The batch of a commit fits the rows that it is made on: no key stands twice in one of its lists, what it removes is
+/// there, what it ends is there without an end, and what it adds isn't there.
+pub fn batches_fit()
+    ensures { BatchesFit }
+{}
