@@ -1,3 +1,4 @@
 mod RiseLemmas
 mod ApartLemmas
 mod FitLemmas
+mod TidyLemmas

@@ -1,7 +1,7 @@
 //! What a commit leaves for the next one. Each function's contract is a law, and its body is empty.
 #![tactic(auto)]
 
-ghost use Rattle.commit_again.specs.Laws.{BatchesFit, RowsRiseAfter};
+ghost use Rattle.commit_again.specs.Laws.{BatchesFit, RowsRiseAfter, SoundStatesAreTidy};
 
 /// The rows of each table rise by key after a commit too.
 pub fn rows_rise_after()
@@ -12,4 +12,10 @@ pub fn rows_rise_after()
 /// there, what it ends is there without an end, and what it adds isn't there.
 pub fn batches_fit()
     ensures { BatchesFit }
+{}
+
+/// Where the rows of a catalogue with its files stand for versions of a lake, each version's state is tidy: everything in it
+/// has its place and its own name.
+pub fn sound_states_are_tidy()
+    ensures { SoundStatesAreTidy }
 {}

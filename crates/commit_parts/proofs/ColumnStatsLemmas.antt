@@ -69,7 +69,7 @@ in_put_by n x y (z ∷ xs) there = go (nat_lt (n z) (n y)) there (in_put_by n x 
     go true (inr later) more = ⊎_elim (λ same. inl same) (λ rest. inr (inr rest)) (more later)
     go false h more = h
 
-in_ordered : {X : Type 0} (n : X → ℕ) (x : X) (xs : List X) → In x (ordered n xs) → In x xs
+pub in_ordered : {X : Type 0} (n : X → ℕ) (x : X) (xs : List X) → In x (ordered n xs) → In x xs
 in_ordered n x [] there = there
 in_ordered n x (y ∷ xs) there = ⊎_elim (λ same. inl same) (λ later. inr (in_ordered n x xs later)) (in_put_by n x y (ordered n xs) there)
 
