@@ -51,6 +51,7 @@ use Rattle.commit_rules.proofs.HistoryLemmas.{first_number}
 use Rattle.commit_rules.proofs.NextLemmas.{row_member, some_row}
 use Rattle.commit_parts.proofs.ColumnStatsLemmas.{in_ordered}
 use Rattle.commit_parts.proofs.CountLemmas.{count_filter}
+use Rattle.commit_parts.proofs.FileLemmas.{some_is}
 use Rattle.commit_parts.proofs.ListLemmas.{Beside, in_of_some, in_zip, lt_second, numbers_rise, some_in}
 use Rattle.commit_parts.proofs.SeenLemmas.{IsTableOf, zip_tables}
 use Rattle.commit_again.specs.Laws.{SoundStatesAreTidy}
@@ -151,10 +152,6 @@ record IsFine (t : Tables) (seen : Seen) : Type 0 where
   schemas : Holds (IsSchemaNameUsed seen)
   tables : Holds (λ k. IsTableUnmatched t seen k ⊎ IsTableNameUsed seen k)
   columns : Holds (λ k. IsColumnless seen k ⊎ (IsCrowdedColumn seen k ⊎ IsColumnBad t seen k))
-
-some_is : {X : Type 0} (o : Option X) → (o ≡ None → ⊥) → (x : X) × (o ≡ Some x)
-some_is None h = absurd (h refl)
-some_is (Some x) h = (x, refl)
 
 module _ (t : Tables) (files : Files) (seen : Seen) (state : State) (fine : IsFine t seen) (plain : IsPlain files seen state) (ids : HasIds state) where
   schemas_seen : map schema_of seen.schema ≡ state.schemas

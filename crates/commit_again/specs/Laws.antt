@@ -21,4 +21,6 @@ BatchesFit = OfCommits (λ t head p own. Fits t (batch_of p))
 
 -- Where rows stand for versions, the state of each is tidy, as it is asked of the base and the head of the next commit.
 abbrev pub SoundStatesAreTidy : Type 0
-SoundStatesAreTidy = (t : Tables) (files : Files) (first : ℕ) (versions : List Version) → IsSound t files first versions → AllByRecursion (λ (v : Version). IsTidy v.state) versions
+SoundStatesAreTidy =
+    (t : Tables) (files : Files) (first : ℕ) (versions : List Version)
+    → IsSound t files first versions → AllByRecursion (λ (v : Version). IsTidy v.state) versions

@@ -53,7 +53,7 @@ use Rattle.commit_parts.proofs.ListLemmas.{all_mapped, all_unmapped, found, in_o
 use Rattle.commit_parts.proofs.MadeLemmas.{IsMade, fields_end, made_are}
 use Rattle.commit_parts.proofs.SeenLemmas.{tables_seen, then}
 
-some_is : {X : Type 0} (o : Option X) → (o ≡ None → ⊥) → (x : X) × (o ≡ Some x)
+pub some_is : {X : Type 0} (o : Option X) → (o ≡ None → ⊥) → (x : X) × (o ≡ Some x)
 some_is None h = absurd (h refl)
 some_is (Some x) h = (x, refl)
 
