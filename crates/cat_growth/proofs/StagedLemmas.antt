@@ -27,8 +27,8 @@ use Rattle.cat_view.specs.Staged.{IsStagedTable, MayHoldCells, NamedStagedFile, 
 use Rattle.cat_growth.specs.Fresh.{AreFilesStaged, CanTake, IsUnaltered, fresh_files, new_file, new_files}
 use Rattle.cat_growth.specs.Growth.{HoldRows, IsMadeReady, IsReady}
 use Rattle.cat_growth.specs.Laws.{MadeFilesHold, StagedFilesHold, StagedVersionsApply}
-use Rattle.cat_growth.proofs.DraftLemmas.{IsOther, Lacks, worked-hold, worked-other}
-use Rattle.cat_growth.proofs.FitLemmas.{inserts-none}
+use Rattle.lake_model.proofs.DraftLemmas.{worked-hold}
+use Rattle.lake_model.proofs.LackedLemmas.{IsOther, Lacks, inserts-none, worked-other}
 use Rattle.cat_growth.proofs.VersionLemmas.{made-have, versions-apply}
 
 -- ---- one file

@@ -9,6 +9,7 @@ use Rattle.lake_types.specs.declared.value.Column.{Column}
 use Rattle.lake_types.specs.declared.value.Row.{Row}
 use Rattle.lake_model.proofs.GrowthLemmas.{grows_by_table}
 use Rattle.lake_model.proofs.RiseLemmas.{all-below}
+use Rattle.lake_model.proofs.TableLemmas.{all-parts}
 use Rattle.lake_model.specs.Apply.{Creation, Draft, created, left, numbered, settled_table}
 use Rattle.lake_model.specs.Creations.{creations}
 use Rattle.lake_model.specs.Growth.{grown, grown_state, made_tables, rows_for, with_own_rows}
@@ -30,10 +31,6 @@ use Rattle.cat_growth.proofs.OrderLemmas.{Below, all_from_ordered, id_of, number
 below-ids : (limit : ℕ) (rows : List Row) → AllByRecursion (λ n. n < limit) (map id_of rows) → Below limit rows
 below-ids limit [] h = tt
 below-ids limit (r ∷ rows) h = (h.0, below-ids limit rows h.1)
-
-pub all_parts : {X : Type 0} (P : X → Type 0) (xs ys : List X) → AllByRecursion P (xs ++ ys) → AllByRecursion P xs × AllByRecursion P ys
-all_parts P [] ys h = (tt, h)
-all_parts P (x ∷ xs) ys h = let parts = all_parts P xs ys h.1 in ((h.0, parts.0), parts.1)
 
 -- ---- tables that the list makes
 
@@ -88,7 +85,7 @@ module _ (files more : Files) (news : NewFiles) (own : List Change) (extends : E
       let live = live_rows more x.columns in
       let old = flat_map (live_rows files x.columns) x.files in
       let new = numbered x.next_row (map (laid_cells x.columns) (rows_for at own)) in
-      let below = all_parts (λ (r : Row). r.id < x.next_row) old x.inlined
+      let below = all-parts (λ (r : Row). r.id < x.next_row) old x.inlined
       (all_from_ordered (λ (r : Row). r.id < x.next_row) (old ++ x.inlined) (below-ids x.next_row (ordered id_of (old ++ x.inlined)) (all-below x.next_row _ h.can_grow.ids))) in
       let read : flat_map live (x.files ++ news at) ≡ old ++ new =
       flat_map-append live x.files (news at) ∙ ap₂ (λ (a b : List Row). a ++ b) (same_live files more x.columns x.files (same_all x.files h.can_grow.there)) h.hold in

@@ -80,7 +80,7 @@ ends-inlined_row : (m : ℕ) (rs : List InlinedRow) (more : List (Key × ℕ)) (
 ends-inlined_row m [] more t = refl
 ends-inlined_row m (r ∷ rs) more t = ends-inlined_row m rs more (ended t (key.Inlined r.table_id r.row_id r.begin_snapshot, m))
 
-removes-table_stats : (rs : List TableStatsRow) (t : Tables) → fold removed t (map (λ r. key.TableStats r.table_id) rs) ≡ record t { table_stats = all_removed table_stats_key (map (λ (r : TableStatsRow). r.table_id ∷ []) rs) t.table_stats }
+pub removes-table_stats : (rs : List TableStatsRow) (t : Tables) → fold removed t (map (λ r. key.TableStats r.table_id) rs) ≡ record t { table_stats = all_removed table_stats_key (map (λ (r : TableStatsRow). r.table_id ∷ []) rs) t.table_stats }
 removes-table_stats [] t = refl
 removes-table_stats (r ∷ rs) t = removes-table_stats rs (removed t (key.TableStats r.table_id))
 

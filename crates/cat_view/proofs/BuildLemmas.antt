@@ -73,17 +73,18 @@ module _ {R : Type 0} (v : Validity R) (s : ℕ) (owner : R → ℕ) where
 
 -- ---- columns
 
-ordered-map : {X : Type 0} (n : X → ℕ) (f : X → X) → ((x : X) → n (f x) ≡ n x) → (xs : List X) → ordered n (map f xs) ≡ map f (ordered n xs)
-ordered-map n f same [] = refl
-ordered-map {X = X} n f same (x ∷ xs) = ap (put_by n (f x)) (ordered-map n f same xs) ∙ put (ordered n xs)
+-- what keeps each number keeps the order
+pub ordered-map : {X Y : Type 0} (n : X → ℕ) (m : Y → ℕ) (f : X → Y) → ((x : X) → m (f x) ≡ n x) → (xs : List X) → ordered m (map f xs) ≡ map f (ordered n xs)
+ordered-map n m f same [] = refl
+ordered-map {X = X} n m f same (x ∷ xs) = ap (put_by m (f x)) (ordered-map n m f same xs) ∙ put (ordered n xs)
   where
-    put : (ys : List X) → put_by n (f x) (map f ys) ≡ map f (put_by n x ys)
+    put : (ys : List X) → put_by m (f x) (map f ys) ≡ map f (put_by n x ys)
     put [] = refl
     put (y ∷ ys) =
-        ap₂ (λ a b. cond (nat_lt a b) (f y ∷ put_by n (f x) (map f ys)) (f x ∷ f y ∷ map f ys)) (same y) (same x)
+        ap₂ (λ a b. cond (nat_lt a b) (f y ∷ put_by m (f x) (map f ys)) (f x ∷ f y ∷ map f ys)) (same y) (same x)
         ∙ go (nat_lt (n y) (n x)) (put ys)
       where
-        go : (b : Bool) → put_by n (f x) (map f ys) ≡ map f (put_by n x ys) → cond b (f y ∷ put_by n (f x) (map f ys)) (f x ∷ f y ∷ map f ys) ≡ map f (cond b (y ∷ put_by n x ys) (x ∷ y ∷ ys))
+        go : (b : Bool) → put_by m (f x) (map f ys) ≡ map f (put_by n x ys) → cond b (f y ∷ put_by m (f x) (map f ys)) (f x ∷ f y ∷ map f ys) ≡ map f (cond b (y ∷ put_by n x ys) (x ∷ y ∷ ys))
         go true more = ap (λ l. f y ∷ l) more
         go false more = refl
 
@@ -102,7 +103,7 @@ pub columns_seen : (s id : ℕ) (rows : List ColumnRow) (columns : List Column) 
     → AllZip IsColumnOf (column_rows id (visible_at column_validity s rows)) columns
 columns_seen s id rows columns all =
     subst (λ rs. AllZip IsColumnOf rs columns)
-    (sym (ordered-map (λ (r : ColumnRow). r.column_order) open_column (λ r. refl) (rows_of (column_owner s) id rows)) ∙ ap in_order (owned_seen column_validity s (λ (r : ColumnRow). r.table_id) id rows (λ r. refl)))
+    (sym (ordered-map (λ (r : ColumnRow). r.column_order) (λ (r : ColumnRow). r.column_order) open_column (λ r. refl) (rows_of (column_owner s) id rows)) ∙ ap in_order (owned_seen column_validity s (λ (r : ColumnRow). r.table_id) id rows (λ r. refl)))
     (opened (in_order (rows_of (column_owner s) id rows)) columns all)
 
 -- what holds of rows without their ends, where ends don't matter

@@ -22,7 +22,7 @@ use Rattle.cat_rows.specs.declared.schemas.ColumnRow.{ColumnRow}
 use Rattle.cat_texts.specs.Spelled.{IsColumnOf, IsValueOf}
 use Rattle.cat_texts.specs.Written.{column_row, default_text}
 use Rattle.cat_view.specs.Named.{ordered, put_by}
-use Rattle.cat_growth.proofs.VersionLemmas.{all_parts}
+use Rattle.lake_model.proofs.TableLemmas.{all-parts}
 use Rattle.rebase.specs.Parts.{column_rows_from}
 use Rattle.commit_parts.specs.Commits.{HasBytes}
 use Rattle.commit_stands.proofs.ListLemmas.{all_both, all_unmapped}
@@ -81,7 +81,7 @@ made-spelled told base head own free bytes = go (made_tables 0 own) tidy bytes
     tidy : AllByRecursion (λ (d : Draft). AreTidyColumns d.columns) (made_tables 0 own)
     tidy =
         all_unmapped (λ (t : Table). AreTidyColumns t.columns) (settled_table head.next_catalog (creations 0 0 own)) (made_tables 0 own)
-        (all_parts (λ (t : Table). AreTidyColumns t.columns) (map (grown own) (left_tables head own)) _
+        (all-parts (λ (t : Table). AreTidyColumns t.columns) (map (grown own) (left_tables head own)) _
         (subst (AllByRecursion (λ (t : Table). AreTidyColumns t.columns)) tables (tidy-at-head told base head own free).columns)).1
 
     go : (ds : List Draft) → AllByRecursion (λ (d : Draft). AreTidyColumns d.columns) ds → AllByRecursion (λ (d : Draft). AllByRecursion HasBytes d.columns) ds

@@ -8,6 +8,7 @@ use Rattle.cat_tables.proofs.RowLemmas.{key-row_of}
 use Rattle.cat_tables.proofs.SightLemmas.{put-last}
 use Rattle.cat_tables.specs.Table.{key_cmp, row_of}
 use Rattle.cat_rows.proofs.PartLemmas.{applied-parts}
+use Rattle.cat_rows.proofs.PastLemmas.{past-parts}
 use Rattle.cat_rows.specs.Batches.{holds}
 use Rattle.cat_rows.specs.Keys.{snapshot_changes_key, snapshot_key}
 use Rattle.cat_rows.specs.Parts.{batch_of}
@@ -30,7 +31,6 @@ use Rattle.commit_stands.proofs.CaseLemmas.{Case, after, head, head-ids, n, p}
 use Rattle.commit_stands.proofs.IdLemmas.{ids-after}
 use Rattle.commit_stands.proofs.KindLemmas.{kinds-push, says-at_head}
 use Rattle.commit_stands.proofs.ListLemmas.{zip-append}
-use Rattle.commit_stands.proofs.PastLemmas.{past-parts}
 use Rattle.commit_stands.proofs.PlainLemmas.{plain-after}
 
 -- ---- numbers

@@ -8,7 +8,6 @@ mod FileLemmas
 mod ColumnLemmas
 mod VersionLemmas
 mod PlainLemmas
-mod PastLemmas
 mod KindLemmas
 mod IdLemmas
 mod CoreLemmas

@@ -1,5 +1,5 @@
 -- What a list creates and leaves, of any list of changes.
-use Rattle.std.proofs.Common.{◌≡◌, ℕ, ◌+◌, ◌==◌, Bool, true, false, cond, List, [], ◌∷◌, ◌++◌, filter, refl, sym, ap, ap₂, ◌∙◌, append_assoc, append-nil, arith}
+use Rattle.std.proofs.Common.{◌≡◌, ℕ, ◌+◌, ◌==◌, Bool, true, false, cond, List, [], ◌∷◌, ◌++◌, filter, map, refl, sym, ap, ap₂, ◌∙◌, append_assoc, append-nil, arith}
 use Rattle.std.specs.Prelude.{Some, None, not, ◌||◌, fold, option_map}
 use Rattle.std.proofs.lemmas.List.Elements.{filter-append}
 use Rattle.lake_model.specs.Apply.{Creation, Draft, NewSchema, NewTable, SchemaDraft, Work, altered, at_table, begun, changed, is_created_schema, is_created_table, is_ref, promoted, renamed, with_column, with_default, with_rows, with_updates, without_column, without_rows, worked}
@@ -14,9 +14,15 @@ use Rattle.lake_model.specs.declared.change.Ref.TheVariants as ref
 
 -- ---- two tests
 
-same_tests : {X : Type 0} (p q : X → Bool) → ((x : X) → p x ≡ q x) → (xs : List X) → filter p xs ≡ filter q xs
+pub same_tests : {X : Type 0} (p q : X → Bool) → ((x : X) → p x ≡ q x) → (xs : List X) → filter p xs ≡ filter q xs
 same_tests p q same [] = refl
 same_tests p q same (x ∷ xs) = ap₂ (λ b l. cond b (x ∷ l) l) (same x) (same_tests p q same xs)
+
+-- a test of what a function makes, before it or after it
+pub filter-mapped : {X Y : Type 0} (f : X → Y) (q : Y → Bool) (xs : List X) → map f (filter (λ x. q (f x)) xs) ≡ filter q (map f xs)
+filter-mapped f q [] = refl
+filter-mapped f q (x ∷ xs) = elim (q (f x)) as (λ b. map f (cond b (x ∷ filter (λ x. q (f x)) xs) (filter (λ x. q (f x)) xs)) ≡ cond b (f x ∷ filter q (map f xs)) (filter q (map f xs)))
+    [ true ↦ ap (λ l. f x ∷ l) (filter-mapped f q xs) | false ↦ filter-mapped f q xs ]
 
 filter-twice : {X : Type 0} (p q : X → Bool) (xs : List X) → filter (λ x. not (q x)) (filter (λ x. not (p x)) xs) ≡ filter (λ x. not (p x || q x)) xs
 filter-twice p q [] = refl
@@ -68,7 +74,7 @@ abbrev left_of : List Change → List Creation → List Creation
 left_of own cs = filter (λ c. not (drops own c)) cs
 
 -- an equation of numbers either way round
-turned : (a b : ℕ) → (a == b) ≡ (b == a)
+pub turned : (a b : ℕ) → (a == b) ≡ (b == a)
 turned a b = search arith
 
 schema_dropped : (own : List Change) (schema : Ref) (c : Creation) → (is_created_schema schema c || drops own c) ≡ drops (change.DropSchema schema ∷ own) c

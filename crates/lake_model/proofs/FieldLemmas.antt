@@ -29,6 +29,7 @@ use Rattle.lake_model.proofs.CellLemmas.{fields-same}
 use Rattle.lake_model.proofs.CreationLemmas.{altered-at}
 use Rattle.lake_model.proofs.PlanLemmas as plan
 use Rattle.lake_model.proofs.PlanLemmas.{found-has}
+use Rattle.lake_model.proofs.RefLemmas.{ref_turned}
 use Rattle.lake_model.proofs.RiseLemmas.{rise-filter, rise-join}
 use Rattle.lake_model.proofs.TableLemmas.{all-joined, all-left, all-mapped, at-holds}
 
@@ -46,11 +47,11 @@ from-past : (n k : ℕ) (columns : List Column) → n < k → AllByRecursion (λ
 from-past n k [] lt = tt
 from-past n k (c ∷ columns) lt = (lt, from-past n (k + 1) columns (omega (arith, lt)))
 
-from-rise : (k limit : ℕ) (columns : List Column) → limit ≡ k + length columns → RiseBelow limit (fields_of (fields_from k columns))
+pub from-rise : (k limit : ℕ) (columns : List Column) → limit ≡ k + length columns → RiseBelow limit (fields_of (fields_from k columns))
 from-rise k limit [] e = tt
 from-rise k limit (c ∷ columns) e = (omega (arith, e), from-past k (k + 1) columns (omega arith), from-rise (k + 1) limit columns (omega (arith, e)))
 
-from-positive : (k : ℕ) (columns : List Column) → 1 ≤ k → AllByRecursion (λ n. 1 ≤ n) (fields_of (fields_from k columns))
+pub from-positive : (k : ℕ) (columns : List Column) → 1 ≤ k → AllByRecursion (λ n. 1 ≤ n) (fields_of (fields_from k columns))
 from-positive k [] le = tt
 from-positive k (c ∷ columns) le = (le, from-positive (k + 1) columns (omega (arith, le)))
 
@@ -118,7 +119,7 @@ altered-fields c d next h = h
 -- ---- the tables of a work
 
 -- no two tables have one reference
-abbrev Differ : List Draft → Type 0
+abbrev pub Differ : List Draft → Type 0
 Differ [] = Unit {0}
 Differ (d ∷ ds) = AllByRecursion (λ (e : Draft). is_ref e.at d.at ≡ false) ds × Differ ds
 
@@ -217,12 +218,6 @@ changed-sound w (change.Compact table) next h = sound-altered w.created_tables (
 changed-sound w (change.Flush table) next h = sound-altered w.created_tables (change.Flush table) w.tables (all-free w.tables) h
 
 -- ---- what a statement appends
-
-ref_turned : (a b : Ref) → is_ref a b ≡ is_ref b a
-ref_turned (ref.Old a) (ref.Old b) = search arith
-ref_turned (ref.New a) (ref.New b) = search arith
-ref_turned (ref.Old a) (ref.New b) = refl
-ref_turned (ref.New a) (ref.Old b) = refl
 
 -- the table that is found is the only one with its reference
 only-found : (q : Draft → Bool) (ds : List Draft) (d : Draft) → find q ds ≡ Some d → Differ ds → AllByRecursion (λ (e : Draft). is_ref e.at d.at ≡ true → d.next_field ≡ e.next_field) ds

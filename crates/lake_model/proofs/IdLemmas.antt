@@ -1,5 +1,5 @@
 -- The ids of rows rise below their counter.
-use Rattle.std.proofs.Common.{◌≡◌, ℕ, ◌+◌, ◌<◌, List, [], ◌∷◌, ◌++◌, ◌==◌, map, filter, length, refl, sym, ap, subst, arith, Bool, true, false}
+use Rattle.std.proofs.Common.{◌≡◌, ℕ, ◌+◌, ◌<◌, List, [], ◌∷◌, ◌++◌, ◌==◌, map, filter, length, suc, refl, sym, ap, subst, arith, Bool, true, false}
 use Rattle.std.specs.Prelude.{not}
 use Rattle.std.specs.List.{AllByRecursion}
 use Rattle.lake_types.specs.declared.value.Row.{Row}
@@ -27,6 +27,10 @@ updated-id rows set r = go (is_named rows (row_ref.Old r.id)) refl
     go : (b : Bool) → is_named rows (row_ref.Old r.id) ≡ b → (updated_row rows set r).id ≡ r.id
     go true e = rw e refl
     go false e = rw e refl
+
+pub length-numbered : (n : ℕ) (fresh : List Cells) → length (numbered n fresh) ≡ length fresh
+length-numbered n [] = refl
+length-numbered n (cells ∷ fresh) = ap suc (length-numbered (n + 1) fresh)
 
 past-numbered : (n m : ℕ) (fresh : List Cells) → n < m → AllByRecursion (λ y. n < y) (ids (numbered m fresh))
 past-numbered n m [] lt = tt

@@ -8,7 +8,7 @@ use Rattle.lake_types.specs.declared.stmt.TableName.{TableName}
 use Rattle.lake_types.specs.declared.value.Column.{Column}
 use Rattle.lake_model.specs.Apply.{Draft, Work, fields_from, worked}
 use Rattle.lake_model.specs.Plans as p
-use Rattle.lake_model.specs.Plans.{Plan, Append, Leave, Refuse, unless}
+use Rattle.lake_model.specs.Plans.{Plan, Append, Leave, Refuse, or_else, refused_if, unless}
 use Rattle.lake_model.specs.State.{State}
 use Rattle.lake_model.specs.Step as s
 use Rattle.lake_model.specs.declared.answer.Answer.{Answer}
@@ -40,6 +40,16 @@ found-passes {X} q (y ∷ xs) x e = go (q y) refl (λ more. found-passes q xs x 
         ap q (sym same) ∙ is
     go false is more = more (rw is at e)
 
+-- ---- faults that don't stand
+
+pub not_refused : (b : Bool) (a : Answer) → refused_if b a ≡ None → b ≡ false
+not_refused true a e = absurd cc
+not_refused false a e = refl
+
+pub first_none : (f g : Option Answer) → or_else f g ≡ None → (f ≡ None) × (g ≡ None)
+first_none None g e = (refl, e)
+first_none (Some a) g e = absurd cc
+
 -- ---- plans
 
 module _ (K : Change → Type 0) where
@@ -63,6 +73,11 @@ module _ (K : Change → Type 0) where
   pub unless-holds : (f : Option Answer) (plan : Plan) → Holds plan → Holds (unless f plan)
   unless-holds None plan h = h
   unless-holds (Some a) plan h = refuses a
+
+  -- the plan may rest on that the fault doesn't stand
+  pub unless-none : (f : Option Answer) (plan : Plan) → (f ≡ None → Holds plan) → Holds (unless f plan)
+  unless-none None plan h = h refl
+  unless-none (Some a) plan h = refuses a
 
   pub in_schema-holds : (name : List ℕ) (plan : Ref → Plan) (o : Option Ref) → ((at : Ref) → o ≡ Some at → Holds (plan at)) → Holds (p.in_schema name plan o)
   in_schema-holds name plan None h = refuses _

@@ -1,5 +1,5 @@
--- A list that a transaction may have inserts into no table that its base lacks.
-use Rattle.std.proofs.Common.{◌≡◌, ℕ, List, [], ◌∷◌, ◌++◌, refl, ap₂}
+-- A table that the base lacks: no list makes it, and one that a transaction may have inserts nothing into it.
+use Rattle.std.proofs.Common.{◌≡◌, ℕ, ◌==◌, false, List, [], ◌∷◌, ◌++◌, map, refl, sym, ap₂, subst, ◌∙◌}
 use Rattle.std.specs.List.{AllByRecursion}
 use Rattle.lake_types.specs.Cells.{column_named}
 use Rattle.lake_types.specs.declared.stmt.Alter.{Alter}
@@ -9,30 +9,49 @@ use Rattle.lake_types.specs.declared.stmt.Stmt.{Stmt}
 use Rattle.lake_types.specs.declared.stmt.Stmt.TheVariants as stmt
 use Rattle.lake_types.specs.declared.stmt.TableName.{TableName}
 use Rattle.lake_types.specs.declared.value.Column.{Column}
+use Rattle.lake_model.proofs.CreationLemmas.{altered-at, turned}
 use Rattle.lake_model.proofs.PlanLemmas as plan
 use Rattle.lake_model.proofs.PlanLemmas.{found-has}
-use Rattle.lake_model.specs.Apply.{Cells, Draft, Work, worked}
+use Rattle.lake_model.proofs.TableLemmas.{drafts-hold}
+use Rattle.lake_model.specs.Apply.{Cells, Draft, Work, drafted, is_ref, worked}
 use Rattle.lake_model.specs.Fits.{FitsFrom, IsAllowed}
 use Rattle.lake_model.specs.Growth.{inserted_into, rows_for}
 use Rattle.lake_model.specs.Plans as p
 use Rattle.lake_model.specs.Plans.{Plan}
 use Rattle.lake_model.specs.Rows as r
-use Rattle.lake_model.specs.State.{State}
+use Rattle.lake_model.specs.State.{State, Table}
 use Rattle.lake_model.specs.Step as s
 use Rattle.lake_model.specs.declared.change.Change.{Change}
 use Rattle.lake_model.specs.declared.change.Change.TheVariants as change
+use Rattle.lake_model.specs.declared.change.Ref.{Ref}
 use Rattle.lake_model.specs.declared.change.Ref.TheVariants as ref
 use Rattle.lake_model.specs.declared.change.RowRef.{RowRef}
-use Rattle.cat_growth.proofs.DraftLemmas.{IsOther, Lacks, worked-other}
 
 module _ (base : State) (id : ℕ) where
+  abbrev pub IsOther : Ref → Type 0
+  IsOther at = (is_ref at (ref.Old id) ≡ false) × (is_ref (ref.Old id) at ≡ false)
+
+  abbrev pub Lacks : Type 0
+  Lacks = AllByRecursion (λ (t : Table). (t.id == id) ≡ false) base.tables
+
+  begun-other : (ts : List Table) → AllByRecursion (λ (t : Table). (t.id == id) ≡ false) ts → AllByRecursion (λ (d : Draft). IsOther d.at) (map drafted ts)
+  begun-other [] h = tt
+  begun-other (t ∷ ts) h = ((h.0, turned id t.id ∙ h.0), begun-other ts h.1)
+
+  -- no list makes it
+  pub worked-other : (own : List Change) → Lacks → AllByRecursion (λ (d : Draft). IsOther d.at) (worked base own).tables
+  worked-other own h =
+      drafts-hold (λ (d : Draft). IsOther d.at) (λ c d k. subst IsOther (sym (altered-at c d)) k) (λ n schema name columns. (refl, refl)) base own (begun-other base.tables h)
+
+  -- ---- what a statement appends
+
   abbrev Spares : Change → Type 0
   Spares c = inserted_into (ref.Old id) c ≡ []
 
   abbrev AreOther : Work → Type 0
-  AreOther w = AllByRecursion (λ (d : Draft). IsOther base id d.at) w.tables
+  AreOther w = AllByRecursion (λ (d : Draft). IsOther d.at) w.tables
 
-  insertion-spares : (d : Draft) (rows : List (List Cell)) → IsOther base id d.at → plan.Holds Spares (r.insertion d rows)
+  insertion-spares : (d : Draft) (rows : List (List Cell)) → IsOther d.at → plan.Holds Spares (r.insertion d rows)
   insertion-spares d [] h = plan.leaves Spares _
   insertion-spares d (row ∷ rows) h = plan.appends Spares _ _ (rw (h.1) refl)
 
@@ -65,7 +84,7 @@ module _ (base : State) (id : ℕ) where
   plans-spare next w (stmt.Change table x) h = alters-spare next w x table
   plans-spare next w (stmt.Insert table rows) h =
       plan.on_table-holds Spares w table _
-      (λ at d found. plan.unless-holds Spares _ _ (insertion-spares d rows (found-has (λ (x : Draft). IsOther base id x.at) _ w.tables d found h)))
+      (λ at d found. plan.unless-holds Spares _ _ (insertion-spares d rows (found-has (λ (x : Draft). IsOther x.at) _ w.tables d found h)))
   plans-spare next w (stmt.Delete table test) h = plan.on_table-holds Spares w table _ (λ at d found. plan.unless-holds Spares _ _ (deletion-spares d _))
   plans-spare next w (stmt.Update table set test) h = plan.on_table-holds Spares w table _ (λ at d found. plan.unless-holds Spares _ _ (updating-spares d _ _))
   plans-spare next w (stmt.Compact table) h = plan.on_table-holds Spares w table _ (λ at d found. plan.appends Spares _ _ refl)
@@ -78,7 +97,7 @@ module _ (base : State) (id : ℕ) where
   allowed-spares before c h k =
       plan.appended-holds Spares _ c k.answer k.plan_is (plan.plan_of-holds Spares base before k.stmt (plans-spare base.next_catalog (worked base before) k.stmt h))
 
-  pub inserts-none : (before own : List Change) → Lacks base id → FitsFrom base before own → rows_for (ref.Old id) own ≡ []
+  pub inserts-none : (before own : List Change) → Lacks → FitsFrom base before own → rows_for (ref.Old id) own ≡ []
   inserts-none before [] lacks fits = refl
   inserts-none before (c ∷ own) lacks fits =
-      ap₂ (λ (a b : List Cells). a ++ b) (allowed-spares before c (worked-other base id before lacks) fits.0) (inserts-none (before ++ c ∷ []) own lacks fits.2)
+      ap₂ (λ (a b : List Cells). a ++ b) (allowed-spares before c (worked-other before lacks) fits.0) (inserts-none (before ++ c ∷ []) own lacks fits.2)

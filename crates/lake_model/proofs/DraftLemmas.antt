@@ -1,20 +1,17 @@
 -- What a list that only creates, drops and inserts leaves of the tables, as drafts.
-use Rattle.std.proofs.Common.{◌≡◌, ℕ, ◌==◌, false, cond, List, [], ◌∷◌, map, refl, sym, ap, subst, ◌∙◌, arith}
+use Rattle.std.proofs.Common.{◌≡◌, false, cond, List, [], ◌∷◌, map, ap, subst, ◌∙◌}
 use Rattle.std.specs.Prelude.{Option, Some, None}
 use Rattle.std.specs.List.{AllByRecursion, cons_option, filter_map}
 use Rattle.lake_model.proofs.ApplyLemmas.{by_table}
-use Rattle.lake_model.proofs.CreationLemmas.{altered-at}
 use Rattle.lake_model.proofs.GrowthLemmas.{grows, made-tables}
-use Rattle.lake_model.proofs.TableLemmas.{drafts-hold}
-use Rattle.lake_model.specs.Apply.{Draft, drafted, is_ref, worked}
+use Rattle.lake_model.proofs.TableLemmas.{all-parts}
+use Rattle.lake_model.specs.Apply.{Draft, drafted, worked}
 use Rattle.lake_model.specs.ByTable.{draft_after, made_from}
 use Rattle.lake_model.specs.Growth.{IsGrowth, made_tables, with_own_rows}
 use Rattle.lake_model.specs.Kinds.{drops_table}
 use Rattle.lake_model.specs.State.{State, Table}
 use Rattle.lake_model.specs.declared.change.Change.{Change}
-use Rattle.lake_model.specs.declared.change.Ref.{Ref}
 use Rattle.lake_model.specs.declared.change.Ref.TheVariants as ref
-use Rattle.cat_growth.proofs.VersionLemmas.{all_parts}
 
 -- one that the list leaves has its rows
 keeps : (own : List Change) (d : Draft) → AllByRecursion IsGrowth own → drops_table own d.at ≡ false → draft_after own d ≡ Some (with_own_rows own d)
@@ -39,26 +36,5 @@ module _ (P : Draft → Type 0) (own : List Change) where
 pub worked-hold : (P : Draft → Type 0) (base : State) (own : List Change) → AllByRecursion IsGrowth own → AllByRecursion P (worked base own).tables
     → AllByRecursion (λ (t : Table). drops_table own (ref.Old t.id) ≡ false → P (with_own_rows own (drafted t))) base.tables × AllByRecursion P (made_tables 0 own)
 worked-hold P base own grow h =
-    let parts = all_parts P (filter_map (draft_after own) (map drafted base.tables)) (made_from 0 own) (subst (AllByRecursion P) (by_table base own) h) in
+    let parts = all-parts P (filter_map (draft_after own) (map drafted base.tables)) (made_from 0 own) (subst (AllByRecursion P) (by_table base own) h) in
     (old-hold P own base.tables grow parts.0, subst (AllByRecursion P) (made-tables 0 own grow) parts.1)
-
--- ---- a table that the base lacks
-
-module _ (base : State) (id : ℕ) where
-  abbrev pub IsOther : Ref → Type 0
-  IsOther at = (is_ref at (ref.Old id) ≡ false) × (is_ref (ref.Old id) at ≡ false)
-
-  abbrev pub Lacks : Type 0
-  Lacks = AllByRecursion (λ (t : Table). (t.id == id) ≡ false) base.tables
-
-  turned : (a b : ℕ) → (a == b) ≡ (b == a)
-  turned a b = search arith
-
-  begun-other : (ts : List Table) → AllByRecursion (λ (t : Table). (t.id == id) ≡ false) ts → AllByRecursion (λ (d : Draft). IsOther d.at) (map drafted ts)
-  begun-other [] h = tt
-  begun-other (t ∷ ts) h = ((h.0, turned id t.id ∙ h.0), begun-other ts h.1)
-
-  -- no list makes it
-  pub worked-other : (own : List Change) → Lacks → AllByRecursion (λ (d : Draft). IsOther d.at) (worked base own).tables
-  worked-other own h =
-      drafts-hold (λ (d : Draft). IsOther d.at) (λ c d k. subst IsOther (sym (altered-at c d)) k) (λ n schema name columns. (refl, refl)) base own (begun-other base.tables h)
