@@ -1,5 +1,5 @@
 -- A list that inserts, creates and drops, over a version with one table: what it makes of the version, by computing.
-use Rattle.std.specs.Prelude.{◌≡◌, ◌+◌, ◌*◌, ℕ, true, false, List, [], ◌∷◌, codes, length, map, Some, None, if◌then◌else◌}
+use Rattle.std.specs.Prelude.{◌≡◌, ◌+◌, ◌*◌, ℕ, true, false, List, [], ◌∷◌, codes, length, map, replicate, Some, None, if◌then◌else◌}
 use Rattle.std.specs.List.{AllByRecursion}
 use Rattle.std.specs.Str.{bytes_eq}
 use Rattle.lake_types.specs.declared.kind.SchemaName.{SchemaName}
@@ -41,7 +41,7 @@ sheet texts = record {
 }
 
 abbrev pub filed : List (List ℕ) → Filed
-filed texts = record { size = 100; sheet = Some (sheet texts) }
+filed texts = record { bytes = replicate 100 0; sheet = Some (sheet texts) }
 
 -- the files before, and then also those with the new rows
 abbrev pub before : Files

@@ -1,5 +1,5 @@
 -- What the catalogue says of a file, and when the file is so.
-use Rattle.std.specs.Prelude.{◌≡◌, ◌<◌, ◌==◌, ℕ, true, List, [], ◌∷◌, filter, Some, None, IfSome}
+use Rattle.std.specs.Prelude.{◌≡◌, ◌<◌, ◌==◌, ℕ, true, List, [], ◌∷◌, filter, length, Some, None, IfSome}
 use Rattle.std.specs.List.{AllByRecursion, AllZip}
 use Rattle.lake_types.specs.declared.sheet.Sheet.{Sheet}
 use Rattle.lake_types.specs.declared.sheet.SheetColumn.{SheetColumn}
@@ -31,7 +31,7 @@ use Rattle.cat_view.specs.Sight.{column_rows, stats_row}
 pub record IsThere (files : Files) (name : List ℕ) (size : ℕ) (sheet : Sheet) : Type 0 where
   pub filed : Filed
   pub there : files name ≡ Some filed
-  pub size_is : filed.size ≡ size
+  pub size_is : length filed.bytes ≡ size
   pub sheet_is : filed.sheet ≡ Some sheet
 
 -- ---- statistics

@@ -1,10 +1,10 @@
--- The files that lie on a disk, as the catalogue and the plain lake meet in them: each name has a size and a sheet.
+-- The files that lie on a disk, as the catalogue and the plain lake meet in them: each name has bytes and a sheet.
 use Rattle.std.specs.Prelude.{◌≡◌, ℕ, true, List, Option, is_some, option_and_then}
 use Rattle.lake_types.specs.declared.sheet.Sheet.{Sheet}
 
--- a file: its size, and the sheet that its bytes hold, where they hold one
+-- a file: its bytes, and the sheet that they hold, where they hold one
 pub record Filed : Type 0 where
-  pub size : ℕ
+  pub bytes : List ℕ
   pub sheet : Option Sheet
 
 -- The files that are there, by name. They may be any part of those on a disk: what says nothing of a name, needs none.

@@ -13,3 +13,5 @@ pub mod Views
 pub mod Building
 pub mod Staged
 pub mod StagedNames
+pub mod Typed
+pub mod Workable

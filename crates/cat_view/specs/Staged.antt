@@ -118,7 +118,7 @@ touched_files files own x = firsts (filter_map (file_with_row files x) (named_id
 pub record IsSealed (files : Files) (name : List ℕ) (size : ℕ) (sheet : Sheet) : Type 0 where
   pub filed : Filed
   pub there : files name ≡ Some filed
-  pub size_is : filed.size ≡ size
+  pub size_is : length filed.bytes ≡ size
   pub sheet_is : filed.sheet ≡ Some sheet
   pub short : length name ≤ MAX_PATH_BYTES
 

@@ -44,7 +44,8 @@ use Rattle.commit_rules.proofs.EndedLemmas.{ended_alike}
 use Rattle.commit_rules.proofs.HistoryLemmas.{first_number}
 use Rattle.commit_rules.proofs.TableLemmas as rules
 use Rattle.rebase.specs.Parts.{FreshFile, file_rows_from, stats_rows_from}
-use Rattle.commit_parts.specs.Commits.{AreTyped, IsOf, IsTyped}
+use Rattle.cat_view.specs.Typed.{IsOf, IsTyped}
+use Rattle.commit_parts.specs.Commits.{AreTyped}
 use Rattle.commit_parts.proofs.AfterLemmas.{after, made_new}
 use Rattle.commit_parts.proofs.CaseLemmas.{Case, columns_low, fresh, head, new, next, number, parts, seen}
 use Rattle.commit_parts.proofs.ColumnLemmas as columns

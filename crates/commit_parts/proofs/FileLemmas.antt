@@ -44,7 +44,8 @@ use Rattle.commit_rules.specs.Lawful.{AreDeletesRight, AreFilesRight, ArePathsNe
 use Rattle.commit_rules.proofs.HistoryLemmas.{first_number}
 use Rattle.commit_rules.proofs.NextLemmas.{row_member, some_row}
 use Rattle.rebase.specs.Parts.{FreshFile, file_row, file_rows_from, first_row, old_stats, restated, rows_in}
-use Rattle.commit_parts.specs.Commits.{AreTyped, IsTyped}
+use Rattle.cat_view.specs.Typed.{IsTyped}
+use Rattle.commit_parts.specs.Commits.{AreTyped}
 use Rattle.commit_parts.proofs.AfterLemmas.{after, made_stats_after, old_stats_after, row_of_made, stats_of_made}
 use Rattle.commit_parts.proofs.CaseLemmas.{Case, fresh, head, new, next, number, parts, seen}
 use Rattle.commit_parts.proofs.ColumnLemmas.{at_head, made, made_tidy}

@@ -33,7 +33,7 @@ use Rattle.cat_texts.proofs.TypeLemmas.{reads_type}
 use Rattle.commit_rules.specs.Lawful.{Misfits, ReadsOn}
 use Rattle.commit_rules.proofs.HistoryLemmas.{first_number}
 use Rattle.rebase.specs.Parts.{column_rows_from}
-use Rattle.commit_parts.specs.Commits.{HasBytes}
+use Rattle.cat_view.specs.Typed.{HasBytes}
 use Rattle.commit_parts.proofs.AfterLemmas.{after, made_stats_after, row_of_made, stats_low, stats_of_made, table_after}
 use Rattle.commit_parts.proofs.CaseLemmas.{Case, columns_low, next, number, parts}
 use Rattle.commit_parts.proofs.ColumnLemmas as columns

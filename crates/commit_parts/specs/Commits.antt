@@ -1,13 +1,7 @@
 -- A commit of a list that only creates, drops and inserts, on top of a head past the list's base.
-use Rattle.std.specs.Prelude.{◌≡◌, ◌≢◌, ◌≤◌, ◌+◌, ℕ, List, length, map, Some, All}
-use Rattle.std.specs.List.{AllByRecursion, filter}
+use Rattle.std.specs.Prelude.{◌≢◌, ◌≤◌, ◌+◌, ℕ, List, length, map}
+use Rattle.std.specs.List.{AllByRecursion}
 use Rattle.lake_types.specs.declared.kind.Kind.{Kind}
-use Rattle.lake_types.specs.declared.sheet.Sheet.{Sheet}
-use Rattle.lake_types.specs.declared.sheet.SheetColumn.{SheetColumn}
-use Rattle.lake_types.specs.declared.value.ColType.{ColType}
-use Rattle.lake_types.specs.declared.value.Column.{Column}
-use Rattle.lake_types.specs.declared.value.Value.{Value}
-use Rattle.lake_types.specs.Texts.{HoldsBytes}
 use Rattle.lake_model.specs.Apply.{Draft}
 use Rattle.lake_model.specs.Core.{Version}
 use Rattle.lake_model.specs.Growth.{made_tables}
@@ -17,16 +11,15 @@ use Rattle.lake_model.specs.State.{State}
 use Rattle.lake_model.specs.declared.change.Change.{Change}
 use Rattle.lake_model.specs.declared.change.Ref.TheVariants as ref
 use Rattle.lake_rebase.specs.Laws.{IsFree}
-use Rattle.col_stats.specs.Stats.{Fits}
-use Rattle.sheet_rows.specs.Sheets.{is_data}
 use Rattle.cat_rows.specs.Batches.{AllDiffer}
 use Rattle.cat_rows.specs.Parts.{Endings}
 use Rattle.cat_rows.specs.Tables.{Tables}
 use Rattle.cat_rows.specs.declared.history.SnapshotRow.{SnapshotRow}
 use Rattle.cat_rules.specs.TableStatsRule.{last_id}
-use Rattle.cat_view.specs.Files.{Files, sheet_at}
+use Rattle.cat_view.specs.Files.{Files}
 use Rattle.cat_view.specs.Named.{NamedVersion}
 use Rattle.cat_view.specs.Staged.{IsStaged, NamedStagedTable}
+use Rattle.cat_view.specs.Typed.{HasBytes, HoldsTyped}
 use Rattle.cat_stands.specs.Stands.{IsSound}
 use Rattle.commit_rules.specs.Lawful.{all_paths}
 use Rattle.commit_rules.specs.Laws.{AreRising}
@@ -49,24 +42,9 @@ pub record HasRoom (t : Tables) (newest : SnapshotRow) (own : List Change) (file
   pub file : newest.next_file_id + length files ≤ last_id
   pub rows : AllByRecursion (λ (x : FreshFile). first_row (old_stats t x.table) + x.file.rows ≤ last_id) files
 
--- a value of the type, whose bytes, if it has any, are bytes
-pub record IsOf (ty : ColType) (v : Value) : Type 0 where
-  pub fits : Fits ty v
-  pub bytes : HoldsBytes v
-
--- a column has so many cells, all of its type
-pub record IsTyped (rows : ℕ) (c : SheetColumn) : Type 0 where
-  pub count : length c.cells ≡ rows
-  pub cells : All (IsOf c.ty) c.cells
-
--- the bytes of a column's defaults are bytes
-pub record HasBytes (c : Column) : Type 0 where
-  pub initial : HoldsBytes c.initial
-  pub default_value : HoldsBytes c.default_value
-
 -- what a file of new rows holds is of its columns' types
 abbrev pub AreTyped : Files → FreshFile → Type 0
-AreTyped files x = (sheet : Sheet) → sheet_at files x.file.name ≡ Some sheet → AllByRecursion (IsTyped sheet.rows) (filter is_data sheet.columns)
+AreTyped files x = HoldsTyped files x.file.name
 
 -- The catalogue stands for versions of a lake, the last of which is the head. The list conflicts with nothing that is told
 -- between its base and the head; and what is staged for it lies in new files, under names that differ and that nothing has.

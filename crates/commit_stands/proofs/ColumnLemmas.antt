@@ -24,7 +24,7 @@ use Rattle.cat_texts.specs.Written.{column_row, default_text}
 use Rattle.cat_view.specs.Named.{ordered, put_by}
 use Rattle.lake_model.proofs.TableLemmas.{all-parts}
 use Rattle.rebase.specs.Parts.{column_rows_from}
-use Rattle.commit_parts.specs.Commits.{HasBytes}
+use Rattle.cat_view.specs.Typed.{HasBytes}
 use Rattle.commit_stands.proofs.ListLemmas.{all_both, all_unmapped}
 
 -- ---- texts of defaults

@@ -41,7 +41,7 @@ use Rattle.cat_growth.proofs.StagedLemmas.{find-none}
 use Rattle.cat_growth.specs.Growth.{grown_table, kept_schemas, kept_tables, made_table}
 use Rattle.rebase.specs.Parts.{FreshFile, columns_of, file_row, fresh_files, schema_row, table_row}
 use Rattle.commit_stands.specs.Commit.{file_id_at, new_files, next_named}
-use Rattle.commit_parts.specs.Commits.{HasBytes}
+use Rattle.cat_view.specs.Typed.{HasBytes}
 use Rattle.commit_stands.proofs.CaseLemmas.{Case, columns-low, deletes-low, files-low, head, inlined-low, n, newest-in, next, next_file, now, p, same-next, seen_then, tables-low}
 use Rattle.commit_stands.proofs.ColumnLemmas.{columns-of_table, columns-ordered, columns-spelled, made-spelled}
 use Rattle.commit_stands.proofs.FileLemmas.{IsTold, file_id-from, named-file, one-file}

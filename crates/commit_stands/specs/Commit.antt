@@ -20,7 +20,8 @@ use Rattle.cat_view.specs.Staged.{NamedStagedTable}
 use Rattle.cat_growth.specs.Fresh as fresh
 use Rattle.cat_growth.specs.Fresh.{AreFilesStaged}
 use Rattle.cat_growth.specs.Growth.{NewFiles, grown_version}
-use Rattle.commit_parts.specs.Commits.{HasBytes, endings_of}
+use Rattle.cat_view.specs.Typed.{HasBytes}
+use Rattle.commit_parts.specs.Commits.{endings_of}
 use Rattle.rebase.specs.Batch.{batch_at}
 use Rattle.rebase.specs.Parts.{FreshFile, first_row, fresh_files, old_stats, parts_of}
 

@@ -14,7 +14,8 @@ use Rattle.new_files.proofs.NameLemmas.{uuid_length}
 use Rattle.sheet_rows.specs.Sheets.{AreCounts, sheet_of, sheet_weight}
 use Rattle.cat_view.specs.Staged.{NamedStagedFile}
 use Rattle.row_files.specs.Folders.{filed, files_of, sheet_in}
-use Rattle.row_files.specs.Fresh.{AreColumns, AreFresh}
+use Rattle.row_files.specs.Fresh.{AreFresh}
+use Rattle.cat_view.specs.Workable.{AreColumns}
 use Rattle.row_files.specs.Staging.{AddsRows, WroteOne}
 use Rattle.row_files.proofs.FreshLemmas.{holds_cells}
 

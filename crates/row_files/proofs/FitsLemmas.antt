@@ -37,8 +37,9 @@ use Rattle.lake_model.proofs.FieldLemmas.{worked-more}
 use Rattle.lake_model.proofs.PlanLemmas as plan
 use Rattle.pq_file.specs.Writable.{IsCell, IsShort}
 use Rattle.cat_view.specs.Named.{NamedTable, NamedVersion}
-use Rattle.row_files.specs.Fresh.{AreColumns, HasOtherField, IsLaid, MayHold}
-use Rattle.row_files.specs.Growing.{AreTables, HasFields, HasOtherId, HasTables, IsSameTable, fresh_of, fresh_tables, has_rows, is_some_row}
+use Rattle.row_files.specs.Fresh.{IsLaid, MayHold}
+use Rattle.cat_view.specs.Workable.{AreColumns, AreTables, HasOtherField, HasOtherId}
+use Rattle.row_files.specs.Growing.{HasFields, HasTables, IsSameTable, fresh_of, fresh_tables, has_rows, is_some_row}
 use Rattle.row_files.specs.Own.{IsEarlier}
 use Rattle.row_files.specs.Stages.{CanBeStaged}
 use Rattle.lake_model.proofs.GrowthLemmas.{left_laid}

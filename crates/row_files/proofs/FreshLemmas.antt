@@ -23,7 +23,8 @@ use Rattle.sheet_rows.proofs.SheetLemmas.{reads_back, weighs_rows}
 use Rattle.cat_view.specs.Files.{Filed, Files}
 use Rattle.cat_view.specs.Staged as staged
 use Rattle.cat_view.specs.Staged.{HasStats, HoldsCells, IsSealed, IsStagedFile, NamedStagedFile}
-use Rattle.row_files.specs.Fresh.{AreColumns, AreFresh, IsLaid, MayHold}
+use Rattle.row_files.specs.Fresh.{AreFresh, IsLaid, MayHold}
+use Rattle.cat_view.specs.Workable.{AreColumns}
 
 -- ---- rows that are laid
 
@@ -141,7 +142,7 @@ counted (c ∷ cs) (s ∷ stats) all = (record { field = all.0.field; counted = 
 pub record HoldsSheet (files : Files) (x : NamedStagedFile) (sheet : Sheet) : Type 0 where
   pub filed : Filed
   pub there : files x.name ≡ Some filed
-  pub size_is : filed.size ≡ x.size
+  pub size_is : length filed.bytes ≡ x.size
   pub sheet_is : filed.sheet ≡ Some sheet
   pub short : length x.name ≤ MAX_PATH_BYTES
   pub rows : sheet.rows ≡ x.rows

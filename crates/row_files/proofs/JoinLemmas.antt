@@ -21,7 +21,8 @@ use Rattle.cat_view.specs.Named.{NamedTable, NamedVersion}
 use Rattle.cat_view.specs.Staged.{IsStaged, IsStagedTable, MayHoldCells, NamedStagedFile, NamedStagedTable, are_apart, is_table, nothing_for, staged_for}
 use Rattle.cat_view.specs.declared.staged.StagedTable.{StagedTable}
 use Rattle.row_files.specs.Folders.{files_of}
-use Rattle.row_files.specs.Growing.{HasOtherId, HasTables, IsSameTable, fresh_of, fresh_of_old, fresh_tables, has_rows, is_some_row, tables_left}
+use Rattle.row_files.specs.Growing.{HasTables, IsSameTable, fresh_of, fresh_of_old, fresh_tables, has_rows, is_some_row, tables_left}
+use Rattle.cat_view.specs.Workable.{HasOtherId}
 use Rattle.row_files.specs.Stages.{AddsTables, FreshTable, IsStagedFresh, StagesTables, named_table, named_tables}
 use Rattle.row_files.specs.Staging.{named_file}
 use Rattle.row_files.proofs.GrowthLemmas.{stages_growth}

@@ -10,7 +10,8 @@ use Rattle.lake_types.specs.declared.value.Column.{Column}
 use Rattle.lake_model.specs.Apply.{Cells}
 use Rattle.lake_model.specs.declared.change.Change.{Change}
 use Rattle.sheet_rows.specs.Sheets.{file_cell, file_column, sheet_of}
-use Rattle.row_files.specs.Fresh.{HasOtherField, IsLaid}
+use Rattle.row_files.specs.Fresh.{IsLaid}
+use Rattle.cat_view.specs.Workable.{HasOtherField}
 use Rattle.row_files.specs.Own.{laid_rows, own_rows, rows_at}
 
 -- ---- a row that is laid has the same cells

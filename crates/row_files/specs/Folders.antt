@@ -1,5 +1,5 @@
--- What the files of a folder are to the catalogue: a size, and a sheet where the bytes hold one.
-use Rattle.std.specs.Prelude.{ℕ, List, length, Option, Some, None, option_map, Result, Ok, Err}
+-- What the files of a folder are to the catalogue: their bytes, and a sheet where these hold one.
+use Rattle.std.specs.Prelude.{ℕ, List, Option, Some, None, option_map, Result, Ok, Err}
 use Rattle.lake_types.specs.declared.sheet.Sheet.{Sheet}
 use Rattle.file_disk.specs.Folder.{Folder}
 use Rattle.pq_file.specs.Reading.{file_of}
@@ -14,7 +14,7 @@ abbrev pub sheet_in : List ℕ → Option Sheet
 sheet_in bytes = value_in (file_of None bytes)
 
 abbrev pub filed : List ℕ → Filed
-filed bytes = record { size = length bytes; sheet = sheet_in bytes }
+filed bytes = record { bytes = bytes; sheet = sheet_in bytes }
 
 abbrev pub files_of : Folder → Files
 files_of folder name = option_map filed (folder name)

@@ -1,23 +1,13 @@
 -- A table's fresh rows, as one data file can hold them.
-use Rattle.std.specs.Prelude.{◌≡◌, ◌≢◌, ◌≤◌, ◌<◌, List, All, AllPairs, length}
+use Rattle.std.specs.Prelude.{◌≡◌, ◌≤◌, List, All, length}
 use Rattle.std.specs.List.{sum_by}
 use Rattle.lake_types.specs.Cells.{laid_cells}
 use Rattle.lake_types.specs.Weights.{row_weight}
-use Rattle.lake_types.specs.declared.limits.TheConstants.{MAX_COLUMNS, MAX_FIELD, MAX_FILE_ROWS, MAX_NAME_BYTES, MAX_TXN_WEIGHT}
+use Rattle.lake_types.specs.declared.limits.TheConstants.{MAX_FILE_ROWS, MAX_TXN_WEIGHT}
 use Rattle.lake_types.specs.declared.value.Column.{Column}
 use Rattle.lake_model.specs.Apply.{Cells}
 use Rattle.pq_file.specs.Writable.{IsCell}
 use Rattle.sheet_rows.specs.Sheets.{file_cell}
-
-abbrev pub HasOtherField : Column → Column → Type 0
-HasOtherField a b = a.field ≢ b.field
-
--- the columns of a table; the largest field id is that of row ids in a file
-pub record AreColumns (columns : List Column) : Type 0 where
-  pub few : length columns ≤ MAX_COLUMNS
-  pub names : All (λ (c : Column). length c.name ≤ MAX_NAME_BYTES) columns
-  pub fields : All (λ (c : Column). c.field < MAX_FIELD) columns
-  pub differ : AllPairs HasOtherField columns
 
 -- cells are one for each column, in the columns' order
 abbrev pub IsLaid : List Column → Cells → Type 0

@@ -1,6 +1,6 @@
 -- The fresh rows that a list leaves which only creates, drops and inserts, table by table.
-use Rattle.std.specs.Prelude.{◌≡◌, ◌≢◌, not, Bool, true, false, List, [], ◌∷◌, ◌++◌, AllPairs, filter, map}
-use Rattle.std.specs.List.{AllByRecursion, AllZip}
+use Rattle.std.specs.Prelude.{◌≡◌, not, Bool, true, false, List, [], ◌∷◌, ◌++◌, filter, map}
+use Rattle.std.specs.List.{AllZip}
 use Rattle.lake_types.specs.Cells.{laid_cells}
 use Rattle.lake_model.specs.Apply.{Cells, Draft, fields_from, left}
 use Rattle.lake_model.specs.Growth.{made_tables, rows_for}
@@ -10,18 +10,9 @@ use Rattle.lake_model.specs.declared.change.Change.{Change}
 use Rattle.lake_model.specs.declared.change.Change.TheVariants as change
 use Rattle.lake_model.specs.declared.change.Ref.TheVariants as ref
 use Rattle.cat_view.specs.Named.{NamedTable, NamedVersion}
-use Rattle.row_files.specs.Fresh.{AreColumns}
 use Rattle.row_files.specs.Stages.{FreshTable}
 
--- ---- a version that can be staged on
-
-abbrev pub HasOtherId : NamedTable → NamedTable → Type 0
-HasOtherId a b = a.id ≢ b.id
-
--- ids differ, and files can hold the columns
-pub record AreTables (tables : List NamedTable) : Type 0 where
-  pub ids : AllPairs HasOtherId tables
-  pub columns : AllByRecursion (λ (x : NamedTable). AreColumns x.columns) tables
+-- ---- the version that is staged on
 
 pub record IsSameTable (t : Table) (x : NamedTable) : Type 0 where
   pub id : t.id ≡ x.id

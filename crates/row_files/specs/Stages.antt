@@ -14,7 +14,8 @@ pub use Rattle.cat_view.specs.StagedNames.{named_staged_table as named_table, na
 use Rattle.cat_view.specs.declared.staged.StagedFile.{StagedFile}
 use Rattle.cat_view.specs.declared.staged.StagedTable.{StagedTable}
 use Rattle.row_files.specs.Folders.{files_of}
-use Rattle.row_files.specs.Fresh.{AreColumns, AreFresh}
+use Rattle.row_files.specs.Fresh.{AreFresh}
+use Rattle.cat_view.specs.Workable.{AreColumns}
 use Rattle.row_files.specs.Staging.{named_file}
 use Rattle.row_files.specs.declared.fault.StageNo.{StageNo}
 use Rattle.row_files.specs.declared.fault.StageNo.TheVariants as stage_no

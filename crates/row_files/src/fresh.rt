@@ -6,7 +6,8 @@ ghost use Rattle.new_files.specs.Drawing.{Drew, IfTaken};
 ghost use Rattle.new_files.specs.declared.fault.NewFileNo.TheVariants as new_file_no;
 ghost use Rattle.sheet_rows.specs.Sheets as sheets;
 ghost use Rattle.row_files.specs.Folders.{sheet_in};
-ghost use Rattle.row_files.specs.Fresh.{AreColumns, AreFresh};
+ghost use Rattle.row_files.specs.Fresh.{AreFresh};
+ghost use Rattle.cat_view.specs.Workable.{AreColumns};
 ghost use Rattle.row_files.specs.Own.{laid_rows, own_rows, rows_at as rows_inserted};
 ghost use Rattle.row_files.specs.Staging.{AddsRows, Describes, WroteNone, WroteOne, named_file};
 
