@@ -2,7 +2,7 @@
 use Rattle.std.proofs.Common.{◌≡◌, ℕ, List, [], ◌∷◌, ◌++◌, refl, ap, sym, subst, ◌∙◌, map}
 use Rattle.std.specs.Prelude.{Option, Some, None}
 use Rattle.lake_model.specs.Losses.{LossSort, loss_sort}
-use Rattle.lake_model.specs.Replay.{AreLosses, IsLossText, IsReplay, IsStmt, IsTooLong, IsWrongAt, Lake, Line, LostWhereListed, NoFeed, Saying, answer_in, lost_in, lost_of, lost_text, own_at, replay_text, said, said_to, sort_in, told}
+use Rattle.lake_model.specs.Replay.{AreLosses, IsLossText, IsReplay, IsStmt, IsTooLong, IsUnbuilt, IsWrongAt, Lake, Line, LostWhereListed, NoFeed, Saying, answer_in, lost_in, lost_of, lost_text, own_at, replay_text, said, said_to, sort_in, told}
 use Rattle.lake_model.specs.Step.{step}
 use Rattle.lake_model.specs.Texts.{answer_text, head_text, shown}
 use Rattle.lake_model.specs.declared.answer.Answer.{Answer}
@@ -17,6 +17,7 @@ pub answer-no_row : (a : Answer) → answer_in (shown (answer_text a)) ≡ Some 
 answer-no_row answer.Done = refl
 answer-no_row (answer.Number n) = refl
 answer-no_row answer.TooLong = refl
+answer-no_row answer.NotBuilt = refl
 answer-no_row (answer.Syntax at) = refl
 answer-no_row answer.InTransaction = refl
 answer-no_row answer.NoTransaction = refl
@@ -48,6 +49,7 @@ pub sort-answer : (a : Answer) → sort_in (shown (answer_text a)) ≡ loss_sort
 sort-answer answer.Done = refl
 sort-answer (answer.Number n) = refl
 sort-answer answer.TooLong = refl
+sort-answer answer.NotBuilt = refl
 sort-answer (answer.Syntax at) = refl
 sort-answer answer.InTransaction = refl
 sort-answer answer.NoTransaction = refl
@@ -97,6 +99,7 @@ answer-shows a h = record {
 saying-shows : (lake : Lake) (session : ℕ) (x : Saying) → Shows (said_to lake session x).last None
 saying-shows lake session IsTooLong = answer-shows answer.TooLong refl
 saying-shows lake session (IsWrongAt at) = answer-shows (answer.Syntax at) refl
+saying-shows lake session IsUnbuilt = answer-shows answer.NotBuilt refl
 saying-shows lake session (IsStmt x) =
     answer-shows (step lake.core (own_at lake.owns session) session x).reply.last (step-spares lake.core (own_at lake.owns session) session x)
 

@@ -28,10 +28,11 @@ with_own owns session own = slice_set owns (session - 1) own
 
 -- ---- lines
 
--- what a line says: it is too long, stops being a line at a place, or is a statement
+-- what a line says: it is too long, stops being a line at a place, or is a statement, which may be one that isn't built yet
 pub data Saying : Type 0 where
   IsTooLong : Saying
   IsWrongAt : ℕ → Saying
+  IsUnbuilt : Saying
   IsStmt : Stmt → Saying
 
 -- a counted line: its session, or 0, and its number within the session
@@ -59,6 +60,7 @@ stepped lake session s = record {
 abbrev pub said_to : Lake → ℕ → Saying → Said
 said_to lake session IsTooLong = said_only lake (shown (answer_text answer.TooLong))
 said_to lake session (IsWrongAt at) = said_only lake (shown (answer_text (answer.Syntax at)))
+said_to lake session IsUnbuilt = said_only lake (shown (answer_text answer.NotBuilt))
 said_to lake session (IsStmt x) = stepped lake session (step lake.core (own_at lake.owns session) session x)
 
 -- a lost line has its text alone and changes nothing

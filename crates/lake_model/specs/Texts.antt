@@ -30,6 +30,7 @@ abbrev pub answer_text : Answer → List ℕ
 answer_text answer.Done = codes "ok"
 answer_text (answer.Number n) = codes "ok " ++ decimal n
 answer_text answer.TooLong = codes "line too long"
+answer_text answer.NotBuilt = codes "not built"
 answer_text (answer.Syntax at) = codes "syntax at " ++ decimal at
 answer_text answer.InTransaction = codes "in transaction"
 answer_text answer.NoTransaction = codes "no transaction"

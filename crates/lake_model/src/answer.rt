@@ -24,6 +24,8 @@ pub enum Answer {
     Done,
     Number { n: u64 },
     TooLong,
+    /// The statement is one of the grammar, and this program doesn't do it yet.
+    NotBuilt,
     Syntax { at: u64 },
     InTransaction,
     NoTransaction,
@@ -58,6 +60,7 @@ impl Copied for Answer {
             Answer::Done => Ok(Answer::Done),
             Answer::Number { n } => Ok(Answer::Number { n: *n }),
             Answer::TooLong => Ok(Answer::TooLong),
+            Answer::NotBuilt => Ok(Answer::NotBuilt),
             Answer::Syntax { at } => Ok(Answer::Syntax { at: *at }),
             Answer::InTransaction => Ok(Answer::InTransaction),
             Answer::NoTransaction => Ok(Answer::NoTransaction),
