@@ -6,6 +6,7 @@ pub mod CreationLemmas
 pub mod DraftLemmas
 pub mod ExampleLemmas
 pub mod FieldLemmas
+pub mod FitsLemmas
 pub mod GrowthLemmas
 pub mod IdLemmas
 pub mod KindLemmas
