@@ -66,7 +66,7 @@ module _ (files more : Files) (extends : Extends files more) where
         let files_of = all-mapped HasSameData (HasSame files more) (file_of seen.delete_file) (λ (f : DataFileRow) e. (e, same_delete f.data_file_id seen.delete_file deletes)) rows all in
         subst (λ (fs : List NamedFile). AllByRecursion (HasSame files more) fs) (sym h.files) files_of
 
-    all_files : (rs : List TableRow) (xs : List NamedTable) → AllZip (IsTableAt seen) rs xs → AllByRecursion (HasSameFiles files more) xs
+    pub all_files : (rs : List TableRow) (xs : List NamedTable) → AllZip (IsTableAt seen) rs xs → AllByRecursion (HasSameFiles files more) xs
     all_files [] [] h = tt
     all_files [] (x ∷ xs) h = absurd h
     all_files (r ∷ rs) [] h = absurd h
@@ -80,11 +80,11 @@ module _ (files more : Files) (extends : Extends files more) where
 
   -- ---- a content
 
-  data_names : (t : Tables) (fs : List DataFileRow) → AllByRecursion (IsDataFile t files) fs → AllByRecursion HasSameData fs
+  pub data_names : (t : Tables) (fs : List DataFileRow) → AllByRecursion (IsDataFile t files) fs → AllByRecursion HasSameData fs
   data_names t [] h = tt
   data_names t (f ∷ fs) h = (same f.path h.0.there.filed h.0.there.there, data_names t fs h.1)
 
-  delete_names : (t : Tables) (ds : List DeleteFileRow) → AllByRecursion (IsDeleteFile t files) ds → AllByRecursion HasSameDelete ds
+  pub delete_names : (t : Tables) (ds : List DeleteFileRow) → AllByRecursion (IsDeleteFile t files) ds → AllByRecursion HasSameDelete ds
   delete_names t [] h = tt
   delete_names t (d ∷ ds) h = (same d.path h.0.there.filed h.0.there.there, delete_names t ds h.1)
 

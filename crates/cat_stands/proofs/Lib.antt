@@ -4,3 +4,4 @@ pub mod EarlierLemmas
 pub mod RestLemmas
 pub mod SeeLemmas
 pub mod OneLemmas
+pub mod KeptLemmas

@@ -97,7 +97,7 @@ module _ (files : Files) (seen : Seen) where
   one_tables (r ∷ rs) (x ∷ xs) [] h k = absurd k
   one_tables (r ∷ rs) (x ∷ xs) (y ∷ ys) h k = ap₂ (λ (a : Table) (b : List Table). a ∷ b) (one_table r x y h.0 k.0) (one_tables rs xs ys h.1 k.1)
 
-  one_state : (a b : State) → IsPlain files seen a → IsPlain files seen b → uncounted a ≡ uncounted b
+  pub one_state : (a b : State) → IsPlain files seen a → IsPlain files seen b → uncounted a ≡ uncounted b
   one_state a b h k =
       let schemas : h.version.schemas ≡ k.version.schemas = h.sees.schemas ∙ sym k.sees.schemas in
       let tables = one_tables seen.table h.version.tables k.version.tables h.sees.tables k.sees.tables in
@@ -167,7 +167,7 @@ all_counted t [] (y ∷ ys) e h k = absurd (none_left e)
 all_counted t (x ∷ xs) [] e h k = absurd (none_left (sym e))
 all_counted t (x ∷ xs) (y ∷ ys) e h k = ap₂ (λ (a : Table) (b : List Table). a ∷ b) (one_counted t x y (head_in e) h.0 k.0) (all_counted t xs ys (tail_in e) h.1 k.1)
 
-one_head : (t : Tables) (newest : SnapshotRow) (a b : State) → uncounted a ≡ uncounted b → HasHeadCounters t newest a → HasHeadCounters t newest b → a ≡ b
+pub one_head : (t : Tables) (newest : SnapshotRow) (a b : State) → uncounted a ≡ uncounted b → HasHeadCounters t newest a → HasHeadCounters t newest b → a ≡ b
 one_head t newest a b u h k =
     let tables : a.tables ≡ b.tables = all_counted t a.tables b.tables (ap (λ (s : State). s.tables) u) h.tables k.tables in
     let next : a.next_catalog ≡ b.next_catalog = h.next_catalog ∙ sym k.next_catalog in
