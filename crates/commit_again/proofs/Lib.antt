@@ -1,4 +1,4 @@
-mod RiseLemmas
+pub mod RiseLemmas
 mod ApartLemmas
 mod FitLemmas
-mod TidyLemmas
+pub mod TidyLemmas

@@ -1,7 +1,7 @@
 mod ListLemmas
 mod StagedLemmas
-mod TargetLemmas
-mod HeadLemmas
+pub mod TargetLemmas
+pub mod HeadLemmas
 mod CaseLemmas
 mod RefLemmas
 mod FileLemmas
@@ -19,4 +19,4 @@ mod FaultLemmas
 mod OldFileLemmas
 mod NewFileLemmas
 mod WholeLemmas
-mod FreeLemmas
+pub mod FreeLemmas

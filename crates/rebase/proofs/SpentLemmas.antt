@@ -17,18 +17,18 @@ use Rattle.rebase.specs.declared.creations.Made.{Made}
 use Rattle.rebase.specs.Spent.{first_spent, spent_if, spent_rows}
 use Rattle.rebase.specs.Stats.{FitsIn, HasRoom}
 
-both_none : {X : Type 0} (a b : Option X) → option_or a b ≡ None → (a ≡ None) × (b ≡ None)
+pub both_none : {X : Type 0} (a b : Option X) → option_or a b ≡ None → (a ≡ None) × (b ≡ None)
 both_none None b e = (refl, e)
 both_none (Some x) b e = absurd cc
 
-small : (c : Counter) (n : ℕ) → spent_if c n ≡ None → n ≤ MAX_COUNTER
+pub small : (c : Counter) (n : ℕ) → spent_if c n ≡ None → n ≤ MAX_COUNTER
 small c n e = go (nat_lt MAX_COUNTER n) refl
   where
     go : (b : Bool) → nat_lt MAX_COUNTER n ≡ b → n ≤ MAX_COUNTER
     go true is = absurd (let some : Some c ≡ None = rw is at e in cc)
     go false is = grind (arith, is)
 
-counters_left : (t : Tables) (head : SnapshotRow) (new : List Creation) (files : List FreshFile) → first_spent t head new files ≡ None → HasCounters head (length new) (length files)
+pub counters_left : (t : Tables) (head : SnapshotRow) (new : List Creation) (files : List FreshFile) → first_spent t head new files ≡ None → HasCounters head (length new) (length files)
 counters_left t head new files e =
     let one = both_none (spent_if counter.Catalog (head.next_catalog_id + length new)) _ e in
     let two = both_none (spent_rows t head.next_catalog_id new files) _ one.1 in
