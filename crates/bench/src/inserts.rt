@@ -1,6 +1,8 @@
 //! INSERT lines of one row, all in one transaction of `txn_buf`: a few, or 100,000 beside the reading of the lines.
 
-ghost use Rattle.std.specs.Prelude.{IfOk};
+ghost use Rattle.std.specs.Prelude.{IfOk, List, ℕ};
+ghost use Rattle.cat_view.specs.Views.{named_view};
+ghost use Rattle.cat_view.specs.Workable.{AreSized};
 ghost use Rattle.txn_buf.specs.Turns.{StandsFor};
 
 mod times;
@@ -16,13 +18,15 @@ use std::alloc::Global;
 use std::sync::Arc;
 use stmt_text::read_line;
 pub use times::print_times;
-use txn_buf::{TxnBuf, TxnNo};
+use txn_buf::{TxnBuf, TxnNo, is_sized};
 
 /// Lines of the small script.
 const FEW: u32 = 20;
 
 /// A view of a lake with the schema `main` alone.
-fn new_lake(alloc: Global) -> Result<View<MemFile>, NoMemory> {
+fn new_lake(alloc: Global) -> Result<View<MemFile>, NoMemory>
+    ensures { IfOk result (λ view. (name : MemFile → List ℕ) → AreSized (named_view name view).tables) }
+{
     let mut schemas = SchemaNames::new(alloc);
     schemas.push(SchemaName {
         id: 0,
@@ -53,27 +57,51 @@ fn columns(alloc: Global) -> Result<ColumnDefs, NoMemory> {
     Ok(columns)
 }
 
-/// A transaction that has made the table of the scripts.
-fn begun<F: Held>(alloc: Global, view: View<F>) -> Result<TxnBuf<F>, TxnNo>
-    ensures { IfOk result (λ buf. StandsFor F.name buf) }
-{
+/// The statement that makes the table of the scripts.
+fn creation(alloc: Global) -> Result<Stmt, NoMemory> {
     let table = TableName {
         schema: Words::of(alloc, "main")?,
         table: Words::of(alloc, "t")?,
     };
     let columns = columns(alloc)?;
+    Ok(Stmt::CreateTable { table, columns })
+}
+
+/// Runs a statement that creates a table.
+fn created<F: Held>(alloc: Global, buf: &mut TxnBuf<F>, statement: &Stmt) -> Result<(), TxnNo>
+    requires { StandsFor F.name buf.old }
+    ensures { StandsFor F.name buf.new }
+{
+    if !is_sized(statement) {
+        return Err(TxnNo::TooLarge);
+    }
+    match statement {
+        Stmt::CreateTable { table, columns } => buf.create_table(alloc, table, columns.as_slice()),
+        _ => Ok(()),
+    }
+}
+
+/// A transaction that has made the table of the scripts.
+fn begun<F: Held>(alloc: Global, view: View<F>) -> Result<TxnBuf<F>, TxnNo>
+    requires { AreSized (named_view F.name view).tables }
+    ensures { IfOk result (λ buf. StandsFor F.name buf) }
+{
+    let statement = creation(alloc)?;
     let mut buf = TxnBuf::new(alloc, view);
-    match buf.create_table(alloc, &table, columns.as_slice()) {
+    match created(alloc, &mut buf, &statement) {
         Ok(()) => Ok(buf),
         Err(no) => Err(no),
     }
 }
 
-/// The rows that a statement inserts, and none where it is refused or is no INSERT.
+/// The rows that a statement inserts, and none where it is too large, is refused or is no INSERT.
 fn inserted<F: Held>(alloc: Global, buf: &mut TxnBuf<F>, statement: &Stmt) -> u64
     requires { StandsFor F.name buf.old }
     ensures { StandsFor F.name buf.new }
 {
+    if !is_sized(statement) {
+        return 0;
+    }
     match statement {
         Stmt::Insert { table, rows } => match buf.insert(alloc, table, rows.as_slice()) {
             Ok(count) => count,

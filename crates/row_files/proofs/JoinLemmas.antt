@@ -17,7 +17,8 @@ use Rattle.lake_model.specs.declared.change.Ref.TheVariants as ref
 use Rattle.lake_model.proofs.ApplyLemmas.{by_table}
 use Rattle.lake_model.proofs.GrowthLemmas.{grows, left_laid, made-tables}
 use Rattle.file_disk.specs.Folder.{Changes, Folder}
-use Rattle.cat_view.specs.Named.{NamedTable, NamedVersion}
+use Rattle.cat_view.specs.Files.{Files}
+use Rattle.cat_view.specs.Named.{NamedTable, NamedVersion, table_of}
 use Rattle.cat_view.specs.Staged.{IsStaged, IsStagedTable, MayHoldCells, NamedStagedFile, NamedStagedTable, are_apart, is_table, nothing_for, staged_for}
 use Rattle.cat_view.specs.declared.staged.StagedTable.{StagedTable}
 use Rattle.row_files.specs.Folders.{files_of}
@@ -27,6 +28,12 @@ use Rattle.row_files.specs.Stages.{AddsTables, FreshTable, IsStagedFresh, Stages
 use Rattle.row_files.specs.Staging.{named_file}
 use Rattle.row_files.proofs.GrowthLemmas.{stages_growth}
 use Rattle.row_files.proofs.OwnLemmas.{turned}
+
+-- ---- the tables of a version
+
+pub tables_of_states : (files : Files) (xs : List NamedTable) → AllZip IsSameTable (map (table_of files) xs) xs
+tables_of_states files [] = tt
+tables_of_states files (x ∷ xs) = (record { id = refl; columns = refl }, tables_of_states files xs)
 
 -- ---- the tables that a list leaves
 

@@ -1,15 +1,19 @@
+ghost use Rattle.std.specs.Prelude.{IfOk, List, ℕ};
+ghost use Rattle.cat_view.specs.Views.{named_view};
+ghost use Rattle.cat_view.specs.Workable.{AreSized};
+ghost use Rattle.txn_buf.specs.Sizes.{IsSizedStmt};
 ghost use Rattle.txn_buf.specs.Turns.{StandsFor};
 
 use cat_view::{Version, View};
 use file_disk::{Held, MemFile};
 use lake_types::{
-    Cell, CellList, NoMemory, SchemaName, SchemaNames, Stmt, TableName, Value, Words,
+    Cell, CellList, CellRows, NoMemory, SchemaName, SchemaNames, Stmt, TableName, Value, Words,
 };
 use std::alloc::Global;
 use std::sync::Arc;
 use std::test::Fail;
 use stmt_text::read_line;
-use txn_buf::{TxnBuf, TxnNo};
+use txn_buf::{TxnBuf, TxnNo, is_sized};
 
 /// A table with a column of each type.
 const TABLE: &str =
@@ -131,7 +135,8 @@ fn count_text(alloc: Global, answer: &Result<u64, TxnNo>) -> Result<String, NoMe
 
 /// The answer to a statement.
 fn said<F: Held>(alloc: Global, buf: &mut TxnBuf<F>, statement: &Stmt) -> Result<String, NoMemory>
-    requires { StandsFor F.name buf.old }
+    requires stands { StandsFor F.name buf.old }
+    requires sized { IsSizedStmt statement.now }
     ensures { StandsFor F.name buf.new }
 {
     match statement {
@@ -149,11 +154,14 @@ fn said<F: Held>(alloc: Global, buf: &mut TxnBuf<F>, statement: &Stmt) -> Result
     }
 }
 
-/// Whether a statement is answered so.
+/// Whether a statement is small, and is answered so.
 fn is_said<F: Held>(alloc: Global, buf: &mut TxnBuf<F>, statement: &Stmt, answer: &str) -> bool
     requires { StandsFor F.name buf.old }
     ensures { StandsFor F.name buf.new }
 {
+    if !is_sized(statement) {
+        return false;
+    }
     match said(alloc, buf, statement) {
         Ok(text) => text.as_str() == answer,
         Err(_) => false,
@@ -172,7 +180,9 @@ fn answers<F: Held>(alloc: Global, buf: &mut TxnBuf<F>, line: &str, answer: &str
 }
 
 /// A view of a lake with the schema `main` alone.
-fn new_lake(alloc: Global, read_only: bool) -> Result<View<MemFile>, NoMemory> {
+fn new_lake(alloc: Global, read_only: bool) -> Result<View<MemFile>, NoMemory>
+    ensures { IfOk result (λ view. (name : MemFile → List ℕ) → AreSized (named_view name view).tables) }
+{
     let mut schemas = SchemaNames::new(alloc);
     schemas.push(SchemaName {
         id: 0,
@@ -186,7 +196,9 @@ fn new_lake(alloc: Global, read_only: bool) -> Result<View<MemFile>, NoMemory> {
 }
 
 /// Whether a line is answered so behind the one that makes the table.
-fn answers_behind<F: Held>(alloc: Global, view: View<F>, line: &str, answer: &str) -> bool {
+fn answers_behind<F: Held>(alloc: Global, view: View<F>, line: &str, answer: &str) -> bool
+    requires { AreSized (named_view F.name view).tables }
+{
     let mut buf = TxnBuf::new(alloc, view);
     let begun = answers(alloc, &mut buf, TABLE, "ok");
     let rest = answers(alloc, &mut buf, line, answer);
@@ -204,7 +216,9 @@ fn lines_are_answered(rt: HostRuntime) -> Result<(), Fail> {
 }
 
 /// Whether each change is added, and the own list then has them all.
-fn adds_changes<F: Held>(alloc: Global, view: View<F>) -> bool {
+fn adds_changes<F: Held>(alloc: Global, view: View<F>) -> bool
+    requires { AreSized (named_view F.name view).tables }
+{
     let mut buf = TxnBuf::new(alloc, view);
     let schema = answers(alloc, &mut buf, "1 CREATE SCHEMA s", "ok");
     let table = answers(alloc, &mut buf, "1 CREATE TABLE s.t (a BIGINT)", "ok");
@@ -222,7 +236,9 @@ fn changes_are_added(rt: HostRuntime) -> Result<(), Fail> {
 }
 
 /// Whether nothing is added where the transaction only reads.
-fn only_reads<F: Held>(alloc: Global, view: View<F>) -> bool {
+fn only_reads<F: Held>(alloc: Global, view: View<F>) -> bool
+    requires { AreSized (named_view F.name view).tables }
+{
     let mut buf = TxnBuf::new(alloc, view);
     let row = answers(alloc, &mut buf, "1 INSERT INTO t VALUES (1)", "read only");
     row && buf.view().read_only() && buf.txn().own.is_empty()
@@ -245,52 +261,44 @@ fn long_text(alloc: Global) -> Result<Words, NoMemory> {
     Ok(Words::from_string(text))
 }
 
-/// A row of one such text.
-fn long_row(alloc: Global) -> Result<CellList, NoMemory> {
+/// One row of one such text.
+fn long_row(alloc: Global) -> Result<CellRows, NoMemory> {
     let mut row = CellList::new(alloc);
     row.push(Cell::Given(Value::Text(long_text(alloc)?)))?;
-    Ok(row)
+    let mut rows = CellRows::new(alloc);
+    rows.push(row)?;
+    Ok(rows)
 }
 
-/// Whether an insertion is answered so.
-fn inserts<F: Held>(
-    alloc: Global,
-    buf: &mut TxnBuf<F>,
-    table: &TableName,
-    rows: &[CellList],
-    answer: &str,
-) -> bool
-    requires { StandsFor F.name buf.old }
-    ensures { StandsFor F.name buf.new }
+/// An insertion of rows.
+fn insertion(alloc: Global, rows: CellRows) -> Result<Stmt, NoMemory> {
+    let table = TableName {
+        schema: Words::of(alloc, "main")?,
+        table: Words::of(alloc, "t")?,
+    };
+    Ok(Stmt::Insert { table, rows })
+}
+
+/// Whether an insertion of a row has room three times, and not a fourth time, when one of no rows has.
+fn is_filled<F: Held>(alloc: Global, view: View<F>, row: &Stmt, no_rows: &Stmt) -> bool
+    requires { AreSized (named_view F.name view).tables }
 {
-    let inserted = buf.insert(alloc, table, rows);
-    match count_text(alloc, &inserted) {
-        Ok(text) => text.as_str() == answer,
-        Err(_) => false,
-    }
-}
-
-/// Whether three of these rows have room, one each time, and a fourth has none.
-fn is_filled<F: Held>(alloc: Global, view: View<F>, table: &TableName, row: &[CellList]) -> bool {
     let mut buf = TxnBuf::new(alloc, view);
     let begun = answers(alloc, &mut buf, "1 CREATE TABLE t (a VARCHAR)", "ok");
-    let first = inserts(alloc, &mut buf, table, row, "ok 1");
-    let second = inserts(alloc, &mut buf, table, row, "ok 1");
-    let third = inserts(alloc, &mut buf, table, row, "ok 1");
-    let fourth = inserts(alloc, &mut buf, table, row, "too large");
-    let none = inserts(alloc, &mut buf, table, &row[..0], "ok 0");
+    let first = is_said(alloc, &mut buf, row, "ok 1");
+    let second = is_said(alloc, &mut buf, row, "ok 1");
+    let third = is_said(alloc, &mut buf, row, "ok 1");
+    let fourth = is_said(alloc, &mut buf, row, "too large");
+    let none = is_said(alloc, &mut buf, no_rows, "ok 0");
     begun && first && second && third && fourth && none && buf.txn().own.len() == 4
 }
 
 #[test]
 fn rows_have_room_up_to_the_limit(rt: HostRuntime) -> Result<(), Fail> {
     let alloc = rt.alloc();
-    let table = TableName {
-        schema: Words::of(alloc, "main")?,
-        table: Words::of(alloc, "t")?,
-    };
-    let row = [long_row(alloc)?];
+    let row = insertion(alloc, long_row(alloc)?)?;
+    let no_rows = insertion(alloc, CellRows::new(alloc))?;
     let view = new_lake(alloc, false)?;
-    assert_eq!(rt; is_filled(alloc, view, &table, &row), true);
+    assert_eq!(rt; is_filled(alloc, view, &row, &no_rows), true);
     Ok(())
 }

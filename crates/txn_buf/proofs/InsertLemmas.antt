@@ -32,6 +32,7 @@ use Rattle.txn_buf.specs.declared.seen.Seen.{Seen}
 use Rattle.txn_buf.specs.declared.seen.SeenTable.{SeenTable}
 use Rattle.txn_buf.specs.declared.tally.Tally.{Tally}
 use Rattle.txn_buf.proofs.KeepLemmas.{keeps-more, keeps-same}
+use Rattle.txn_buf.proofs.ListLemmas.{IsListed}
 use Rattle.txn_buf.proofs.PlanLemmas.{draft_at-bare, insert-alike}
 use Rattle.txn_buf.proofs.TurnLemmas.{weight-more}
 
@@ -119,8 +120,8 @@ seen-stays seen at rs = rw (inserted-bare at rs seen.tables.items) refl
 
 pub insert_kept : (v : NamedVersion) (txn : Txn) (tally new : Tally) (seen : Seen) → Keeps v txn.own tally → IsReady v txn seen → (table : TableName) (rs : List (List Cell)) (n : ℕ) (left : List Change)
     → Leaves (insertion tally.weight (work_of seen) table rs) txn.own left (answer.Number n) → new.weight ≡ tally.weight + insertion_weight (work_of seen) table rs → new.weight ≤ MAX_TXN_WEIGHT
-    → new.compacts ≡ tally.compacts → new.seen ≡ Some seen → Keeps v left new
-insert_kept v txn tally new seen keeps ready table rs n left leaves weighs small same_sort now =
+    → new.compacts ≡ tally.compacts → new.seen ≡ Some seen → IsListed v left → Keeps v left new
+insert_kept v txn tally new seen keeps ready table rs n left leaves weighs small same_sort now list =
     each-plan (λ p. Leaves (with_room tally.weight (work_of seen) p) txn.own left (answer.Number n) → new.weight ≡ tally.weight + plan_weight (work_of seen) p → Keeps v left new)
     (λ a leaves weighs. absurd leaves) left_alone append (work_of seen) table rs leaves weighs
   where
@@ -137,7 +138,7 @@ insert_kept v txn tally new seen keeps ready table rs n left leaves weighs small
             ∙ sym (weighs-more base txn.own (work_of seen) (ready.seen_is base same) at xs)
 
         go : (b : Bool) → Leaves (if b then Append (change.Insert at xs) a else Refuse answer.TooLarge) txn.own left (answer.Number n) → Keeps v left new
-        go true leaves = keeps-more v txn tally new seen seen (change.Insert at xs) left keeps ready refl leaves.0 same_sort small total now (seen-stays seen at xs)
+        go true leaves = keeps-more v txn tally new seen seen (change.Insert at xs) left keeps ready refl leaves.0 same_sort small total now (seen-stays seen at xs) list
         go false leaves = absurd leaves
 
 -- ---- the call
@@ -155,9 +156,9 @@ module _ {F : Type 0} (name : F → List ℕ) (old mid : TxnBuf F) (seen : Seen)
   same-weight = ap (λ (t : Tally). t.weight) taken
 
   pub insert_stands : (weight : ℕ) → view_of mid ≡ view_of old → IfOk r (λ n. Leaves (insertion mid.tally.weight (work_of seen) table rs) mid.txn.own after (answer.Number n))
-      → OnOk r (weight ≡ mid.tally.weight + insertion_weight (work_of seen) table rs) → OnOk r (weight ≤ MAX_TXN_WEIGHT) → OnErr r (after ≡ mid.txn.own) → OnErr r (weight ≡ mid.tally.weight)
+      → OnOk r (weight ≡ mid.tally.weight + insertion_weight (work_of seen) table rs) → OnOk r (weight ≤ MAX_TXN_WEIGHT) → OnErr r (after ≡ mid.txn.own) → OnErr r (weight ≡ mid.tally.weight) → IsListed (named_view name (view_of old)) after
       → Keeps (named_view name mid.view) after record { weight = weight; compacts = mid.tally.compacts; seen = Some seen }
-  insert_stands weight same_view leaves weighs small left kept = rw (same_view, taken) (go r leaves weighs small left kept)
+  insert_stands weight same_view leaves weighs small left kept list = rw (same_view, taken) (go r leaves weighs small left kept)
     where
       v : NamedVersion
       v = named_view name (view_of old)
@@ -168,7 +169,7 @@ module _ {F : Type 0} (name : F → List ℕ) (old mid : TxnBuf F) (seen : Seen)
       go : (q : Result ℕ TxnNo) → IfOk q (λ n. Leaves (insertion mid.tally.weight (work_of seen) table rs) mid.txn.own after (answer.Number n))
           → OnOk q (weight ≡ mid.tally.weight + insertion_weight (work_of seen) table rs) → OnOk q (weight ≤ MAX_TXN_WEIGHT) → OnErr q (after ≡ mid.txn.own) → OnErr q (weight ≡ mid.tally.weight) → Keeps v after new
       go (Ok n) leaves weighs small left kept = insert_kept v old.txn old.tally new seen keeps ready table rs n after (from-old n leaves)
-          (weighs ∙ ap (λ (m : ℕ). m + insertion_weight (work_of seen) table rs) same-weight) small refl refl
+          (weighs ∙ ap (λ (m : ℕ). m + insertion_weight (work_of seen) table rs) same-weight) small refl refl list
       go (Err why) leaves weighs small left kept = keeps-same v old.txn old.tally new seen seen after keeps ready (left ∙ ap (λ (t : Txn). t.own) same_txn) refl (kept ∙ same-weight) refl refl
 
   pub insert_does : IfOk r (λ n. Leaves (insertion mid.tally.weight (work_of seen) table rs) mid.txn.own after (answer.Number n))

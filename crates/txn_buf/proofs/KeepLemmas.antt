@@ -1,11 +1,13 @@
 -- What a statement is answered, and what is kept afterwards.
 use Rattle.std.proofs.Common.{◌≡◌, ◌≢◌, ◌≤◌, ◌<◌, ℕ, List, [], ◌∷◌, ◌++◌, refl, sym, ap, subst, ◌∙◌, true, false, arith}
-use Rattle.std.specs.Prelude.{nat_le, Some, None, Result, Ok, Err, IfErr, OnOk, OnErr}
-use Rattle.std.specs.List.{list_any}
+use Rattle.std.specs.Prelude.{nat_le, Some, None, Result, Ok, Err, IfErr, IfOk, OnOk, OnErr}
+use Rattle.std.specs.List.{AllByRecursion, list_any}
 use Rattle.std.proofs.lemmas.List.Folds.{list_any-append}
 use Rattle.lake_types.specs.declared.limits.TheConstants.{MAX_TXN_WEIGHT}
 use Rattle.lake_types.specs.declared.stmt.Stmt.{Stmt}
 use Rattle.lake_model.specs.Apply.{Work, changed, worked}
+use Rattle.lake_model.specs.Fits.{Fits}
+use Rattle.lake_model.specs.Growth.{IsGrowth}
 use Rattle.lake_model.specs.Plans.{Plan, Append, Leave, Refuse}
 use Rattle.lake_model.specs.Rows.{change_weight, own_weight}
 use Rattle.lake_model.specs.State.{State}
@@ -25,6 +27,8 @@ use Rattle.txn_buf.specs.declared.no.TxnNo.{TxnNo}
 use Rattle.txn_buf.specs.declared.no.TxnNo.TheVariants.{Memory}
 use Rattle.txn_buf.specs.declared.seen.Seen.{Seen}
 use Rattle.txn_buf.specs.declared.tally.Tally.{Tally}
+use Rattle.txn_buf.specs.Sizes.{IsSizedStmt}
+use Rattle.txn_buf.proofs.ListLemmas.{IsGrowing, IsListed, listed}
 use Rattle.txn_buf.proofs.TurnLemmas.{begun-is, seen-more, weight-more}
 
 -- ---- what is planned
@@ -129,8 +133,8 @@ weighs-same v own tally c keeps none base same =
 
 pub keeps-more : (v : NamedVersion) (txn : Txn) (old new : Tally) (seen later : Seen) (c : Change) (after : List Change) → Keeps v txn.own old → IsReady v txn seen
     → is_compaction c ≡ false → after ≡ txn.own ++ c ∷ [] → new.compacts ≡ old.compacts → new.weight ≤ MAX_TXN_WEIGHT → ((base : State) → IsBase v base → new.weight ≡ own_weight base (txn.own ++ c ∷ []))
-    → new.seen ≡ Some later → work_of later ≡ bare (changed (work_of seen) c) → Keeps v after new
-keeps-more v txn old new seen later c after keeps ready plain is same_sort small weighs now work =
+    → new.seen ≡ Some later → work_of later ≡ bare (changed (work_of seen) c) → IsListed v after → Keeps v after new
+keeps-more v txn old new seen later c after keeps ready plain is same_sort small weighs now work list =
     let compacts_is : list_any is_compaction (txn.own ++ c ∷ []) ≡ false = list_any-append is_compaction txn.own (c ∷ []) ∙ rw (ready.unmixed, plain) refl in
     rw is record {
       small = small;
@@ -139,6 +143,9 @@ keeps-more v txn old new seen later c after keeps ready plain is same_sort small
         weight = weighs base same;
         seen = rw now (seen-more base txn.own c (work_of seen) (work_of later) (ready.seen_is base same) work);
       };
+      sized = keeps.sized;
+      growth = subst (AllByRecursion IsGrowth) is list.growth;
+      fits = λ base same. subst (Fits base) is (list.fits base same);
     }
 
 pub keeps-same : (v : NamedVersion) (txn : Txn) (old new : Tally) (seen later : Seen) (after : List Change) → Keeps v txn.own old → IsReady v txn seen → after ≡ txn.own
@@ -151,6 +158,9 @@ keeps-same v txn old new seen later after keeps ready is same_sort weighs now wo
         weight = weighs ∙ (keeps.kept base same).weight;
         seen = rw now (work ∙ ready.seen_is base same);
       };
+      sized = keeps.sized;
+      growth = keeps.growth;
+      fits = keeps.fits;
     }
 
 -- ---- a call that adds a change which makes no rows, or refuses
@@ -159,9 +169,9 @@ module _ {F : Type 0} (name : F → List ℕ) (old mid : TxnBuf F) (seen : Seen)
     (keeps : StandsFor name old) (ready : IsReady (named_view name (view_of old)) (txn_of old) seen) (same_txn : txn_of mid ≡ txn_of old) (none : IsWeightless c) where
   pub stands : (later : Seen) → view_of mid ≡ view_of old → tally_of mid ≡ record (tally_of old) { seen = None } → is_compaction c ≡ false
       → OnOk r (after ≡ mid.txn.own ++ c ∷ []) → OnErr r (after ≡ mid.txn.own)
-      → OnOk r (work_of later ≡ bare (changed (work_of seen) c)) → OnErr r (work_of later ≡ work_of seen)
+      → OnOk r (work_of later ≡ bare (changed (work_of seen) c)) → OnErr r (work_of later ≡ work_of seen) → IsListed (named_view name (view_of old)) after
       → Keeps (named_view name mid.view) after record { weight = mid.tally.weight; compacts = mid.tally.compacts; seen = Some later }
-  stands later same_view taken plain added left work kept = rw (same_view, taken) (go r added left work kept)
+  stands later same_view taken plain added left work kept list = rw (same_view, taken) (go r added left work kept)
     where
       v : NamedVersion
       v = named_view name (view_of old)
@@ -172,7 +182,7 @@ module _ {F : Type 0} (name : F → List ℕ) (old mid : TxnBuf F) (seen : Seen)
       go : (q : Result (Unit {0}) TxnNo) → OnOk q (after ≡ mid.txn.own ++ c ∷ []) → OnErr q (after ≡ mid.txn.own)
           → OnOk q (work_of later ≡ bare (changed (work_of seen) c)) → OnErr q (work_of later ≡ work_of seen) → Keeps v after new
       go (Ok u) added left work kept = keeps-more v old.txn old.tally new seen later c after keeps ready plain (added ∙ ap (λ (t : Txn). t.own ++ c ∷ []) same_txn) refl keeps.small
-          (weighs-same v old.txn.own old.tally c keeps none) refl work
+          (weighs-same v old.txn.own old.tally c keeps none) refl work list
       go (Err why) added left work kept = keeps-same v old.txn old.tally new seen later after keeps ready (left ∙ ap (λ (t : Txn). t.own) same_txn) refl refl refl kept
 
   pub does : (x : Stmt) (p : Plan) (a : Answer) → compacts x ≡ false → PlansAlike x → IsPlan seen x p → OnOk r (p ≡ Append c a) → OnOk r (after ≡ mid.txn.own ++ c ∷ [])
@@ -188,6 +198,16 @@ module _ {F : Type 0} (name : F → List ℕ) (old mid : TxnBuf F) (seen : Seen)
       go : (q : Result (Unit {0}) TxnNo) → OnOk q (p ≡ Append c a) → OnOk q (after ≡ mid.txn.own ++ c ∷ []) → OnOk q (IsDone v (txn_of old) x after a)
       go (Ok u) plan added = done v old.txn seen x ready alone alike c a after (λ next. is next ∙ plan) (added ∙ ap (λ (t : Txn). t.own ++ c ∷ []) same_txn) small
       go (Err why) plan added = tt
+
+-- a call that is done, or refused with the list as it was, leaves a list that may be staged and committed
+module _ {F T : Type 0} (name : F → List ℕ) (old mid : TxnBuf F) (after : List Change) (r : Result T TxnNo) (keeps : StandsFor name old) (same_txn : txn_of mid ≡ txn_of old)
+    (x : Stmt) (grows : IsGrowing x) (sized : IsSizedStmt x) (left : OnErr r (after ≡ mid.txn.own)) where
+  pub lists : (a : T → Answer) → IfOk r (λ n. IsDone (named_view name (view_of old)) (txn_of old) x after (a n)) → IsListed (named_view name (view_of old)) after
+  lists a done = listed (named_view name (view_of old)) old.txn old.tally keeps x grows sized r after a done (go r left)
+    where
+      go : (q : Result T TxnNo) → OnErr q (after ≡ mid.txn.own) → OnErr q (after ≡ old.txn.own)
+      go (Ok n) left = tt
+      go (Err why) left = left ∙ ap (λ (t : Txn). t.own) same_txn
 
 pub refuses : {F : Type 0} (name : F → List ℕ) (old : TxnBuf F) (seen : Seen) (r : Result (Unit {0}) TxnNo) → IsReady (named_view name (view_of old)) (txn_of old) seen
     → (x : Stmt) (p : Plan) → compacts x ≡ false → PlansAlike x → IsPlan seen x p → IfErr r (λ why. why ≢ Memory → p ≡ Refuse (answer_of why))

@@ -1,9 +1,9 @@
 -- What a change makes of the schemas and tables that are seen.
-use Rattle.std.proofs.Common.{◌≡◌, ℕ, ◌+◌, List, [], ◌∷◌, ◌++◌, map, filter, length, suc, refl, sym, ap, ◌∙◌, Bool, true, false}
+use Rattle.std.proofs.Common.{◌≡◌, ℕ, ◌+◌, List, [], ◌∷◌, ◌++◌, map, filter, refl, sym, ap, ◌∙◌, Bool, true, false}
 use Rattle.std.specs.Prelude.{not}
 use Rattle.std.proofs.lemmas.List.{map-append}
 use Rattle.lake_types.specs.declared.stmt.ColumnDef.{ColumnDef}
-use Rattle.lake_model.specs.Apply.{Draft, SchemaDraft, changed, created, fields_from, is_ref, with_table, without_schema, without_table}
+use Rattle.lake_model.specs.Apply.{Draft, SchemaDraft, changed, created, is_ref, with_table, without_schema, without_table}
 use Rattle.lake_model.specs.Plans.{columns_from}
 use Rattle.lake_model.specs.declared.change.Change.TheVariants as change
 use Rattle.lake_model.specs.declared.change.Ref.{Ref}

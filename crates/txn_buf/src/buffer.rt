@@ -2,6 +2,7 @@ ghost use Rattle.std.specs.Prelude.{◌≡◌, ◌≢◌, false, [], None, IfErr
 ghost use Rattle.lake_types.specs.declared.stmt.Stmt.{Stmt};
 ghost use Rattle.lake_model.specs.Step.{compacts};
 ghost use Rattle.cat_view.specs.Views.{base_of, named_view, only_reads};
+ghost use Rattle.cat_view.specs.Workable.{AreSized};
 ghost use Rattle.txn_buf.specs.Keeping.{IsReady, Keeps, txn_of, tally_of, view_of};
 ghost use Rattle.txn_buf.specs.Turns.{IsRefused};
 ghost use Rattle.txn_buf.specs.declared.no.TxnNo.TheVariants.{Memory};
@@ -23,8 +24,10 @@ pub struct TxnBuf<F> {
 }
 
 impl<F: Held> TxnBuf<F> {
-    /// A transaction on a view, without changes. It takes no memory.
+    /// A transaction on a view, without changes. The names and defaults of the view's columns are small. It takes no
+    /// memory.
     pub fn new(alloc: Global, view: View<F>) -> TxnBuf<F>
+        requires sized { AreSized (named_view F.name view).tables }
         ensures view { view_of result ≡ view }
         ensures txn { txn_of result ≡ record { base = base_of view; read_only = only_reads view; own = [] } }
         ensures keeps { Keeps (named_view F.name view) (txn_of result).own (tally_of result) }

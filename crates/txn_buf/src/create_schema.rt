@@ -6,6 +6,7 @@ ghost use Rattle.lake_model.specs.declared.answer.Answer.TheVariants as answer;
 ghost use Rattle.lake_model.specs.declared.change.Change.TheVariants as change;
 ghost use Rattle.txn_buf.specs.Drafts.{bare, work_of};
 ghost use Rattle.txn_buf.specs.Keeping.{txn_of};
+ghost use Rattle.txn_buf.specs.Sizes.{IsSizedStmt};
 ghost use Rattle.txn_buf.specs.Turns.{Does, IsSameTxn, Refuses, StandsFor, answer_of};
 ghost use Rattle.txn_buf.specs.declared.no.TxnNo.TheVariants.{Memory};
 
@@ -56,12 +57,14 @@ fn create_schema_in(
 }
 
 impl<F: Held> TxnBuf<F> {
-    /// Adds a schema. The condition is that the buffer stands for its own list, which it does from `new` on.
+    /// Adds a schema. The conditions are that the buffer stands for its own list, which it does from `new` on, and that
+    /// the statement is small, which `is_sized` tells.
     ///
     /// `ReadOnly`, where the transaction only reads; `Mixed`, where it compacts; `NameUsed`, where a schema that it sees
     /// has the name.
     pub fn create_schema(&mut self, alloc: Global, name: &Words) -> Result<(), TxnNo>
         requires stands { StandsFor F.name self.old }
+        requires sized { IsSizedStmt (stmt.CreateSchema name.now) }
         ensures stands { StandsFor F.name self.new }
         ensures done { OnOk result (Does F.name self.old (stmt.CreateSchema name.now) self.new answer.Done) }
         ensures refused { IfErr result (λ why. why ≢ Memory → Refuses F.name self.old (stmt.CreateSchema name.now)

@@ -7,6 +7,7 @@ ghost use Rattle.lake_types.specs.declared.limits.TheConstants.{MAX_COLUMNS};
 ghost use Rattle.lake_model.specs.declared.change.Change.TheVariants as change;
 ghost use Rattle.txn_buf.specs.Drafts.{bare, created_table, work_of};
 ghost use Rattle.txn_buf.specs.Keeping.{txn_of};
+ghost use Rattle.txn_buf.specs.Sizes.{IsSizedStmt};
 ghost use Rattle.txn_buf.specs.Turns.{Does, IsSameTxn, Refuses, StandsFor, answer_of, creation_fault_in, table_creation};
 ghost use Rattle.txn_buf.specs.declared.no.TxnNo.TheVariants.{Memory};
 
@@ -133,7 +134,7 @@ fn create_table_in(
 }
 
 impl<F: Held> TxnBuf<F> {
-    /// Adds a table without rows. The condition is that of `create_schema`.
+    /// Adds a table without rows. The conditions are those of `create_schema`.
     ///
     /// `ReadOnly` and `Mixed` as there. Then, in this order: `NoSchema`, where it sees no schema of the name; `NameUsed`,
     /// where it sees a table of the name there; `ManyColumns`; and of the first column that has a fault `NameUsed`,
@@ -146,6 +147,7 @@ impl<F: Held> TxnBuf<F> {
         columns: &[ColumnDef],
     ) -> Result<(), TxnNo>
         requires stands { StandsFor F.name self.old }
+        requires sized { IsSizedStmt (stmt.CreateTable table.now columns.now) }
         ensures stands { StandsFor F.name self.new }
         ensures done { OnOk result (Does F.name self.old (stmt.CreateTable table.now columns.now) self.new
             answer.Done) }

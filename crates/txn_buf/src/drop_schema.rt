@@ -49,7 +49,7 @@ fn drop_schema_in(
 }
 
 impl<F: Held> TxnBuf<F> {
-    /// Drops a schema. The condition is that of `create_schema`.
+    /// Drops a schema. The condition is that the buffer stands for its own list.
     ///
     /// `ReadOnly` and `Mixed` as there; `NoSchema`, where it sees no schema of the name; `NotEmpty`, where it sees a table
     /// in that schema.

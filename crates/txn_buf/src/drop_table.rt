@@ -44,7 +44,7 @@ fn drop_table_in(
 }
 
 impl<F: Held> TxnBuf<F> {
-    /// Drops a table with its rows. The condition is that of `create_schema`.
+    /// Drops a table with its rows. The condition is that of `drop_schema`.
     ///
     /// `ReadOnly` and `Mixed` as there; `NoSchema` and `NoTable`, where it sees no schema or table of the name.
     pub fn drop_table(&mut self, alloc: Global, table: &TableName) -> Result<(), TxnNo>

@@ -7,6 +7,7 @@ ghost use Rattle.lake_model.specs.declared.answer.Answer.TheVariants as answer;
 ghost use Rattle.txn_buf.specs.Drafts.{work_of};
 ghost use Rattle.txn_buf.specs.Inserts.{insertion, insertion_weight, plan_of_rows, plan_weight, with_room};
 ghost use Rattle.txn_buf.specs.Keeping.{txn_of};
+ghost use Rattle.txn_buf.specs.Sizes.{IsSizedStmt};
 ghost use Rattle.txn_buf.specs.Turns.{Does, IsSameTxn, Leaves, Refuses, StandsFor, answer_of};
 ghost use Rattle.txn_buf.specs.declared.no.TxnNo.TheVariants.{Memory};
 
@@ -124,8 +125,8 @@ fn insert_in(
 }
 
 impl<F: Held> TxnBuf<F> {
-    /// Inserts rows, and tells how many there are. Where there are none, it adds no change. The condition is
-    /// that of `create_schema`.
+    /// Inserts rows, and tells how many there are. Where there are none, it adds no change. The conditions
+    /// are those of `create_schema`.
     ///
     /// `ReadOnly` and `Mixed` as there. Then, in this order: `NoSchema` and `NoTable`, where it sees no schema
     /// or table of the name; of the first row that has a fault `Arity`, where it hasn't a cell for each column,
@@ -139,6 +140,7 @@ impl<F: Held> TxnBuf<F> {
         rows: &[CellList],
     ) -> Result<u64, TxnNo>
         requires stands { StandsFor F.name self.old }
+        requires sized { IsSizedStmt (stmt.Insert table.now rows.now) }
         ensures stands { StandsFor F.name self.new }
         ensures done { IfOk result (λ n. Does F.name self.old (stmt.Insert table.now rows.now) self.new (answer.Number
             n)) }

@@ -16,8 +16,10 @@ mod no;
 mod row;
 mod rows;
 mod seen;
+mod sizes;
 mod tally;
 
 pub use buffer::TxnBuf;
 pub use no::TxnNo;
+pub use sizes::is_sized;
 pub use tally::Tally;

@@ -4,15 +4,9 @@ use Rattle.lake_model.specs.Plans as plan
 use Rattle.lake_model.specs.declared.answer.Answer.TheVariants as answer
 use Rattle.txn_buf.specs.Drafts.{work_of}
 use Rattle.txn_buf.specs.Turns.{table_creation}
-use Rattle.txn_buf.proofs.KeepLemmas.{does, refuses, stands}
+use Rattle.txn_buf.proofs.KeepLemmas.{does, lists, refuses, stands}
 use Rattle.txn_buf.proofs.PlanLemmas.{create_table-alike}
 use Rattle.txn_buf.proofs.buffer.TxnBuf.create_table.Goals as goal
-
-pub returns-clause-stands : goal.returns-clause-stands
-returns-clause-stands g c =
-    let call = c.create_table_in-result in
-    stands g.F.Held.name c.args.self.now c.begin.new.self c.in-Ok.seen (table_creation (work_of c.in-Ok.seen) c.args.table.now c.args.columns.now) call.new.own call.result c.requires.stands c.in-Ok.ensures.ready
-    c.in-Ok.ensures.txn (λ w before. refl) call.new.seen c.in-Ok.ensures.view c.in-Ok.ensures.taken refl call.ensures.own call.ensures.same_own call.ensures.seen call.ensures.same_seen
 
 pub returns-clause-done : goal.returns-clause-done
 returns-clause-done g c =
@@ -20,6 +14,14 @@ returns-clause-done g c =
     does g.F.Held.name c.args.self.now c.begin.new.self c.in-Ok.seen (table_creation (work_of c.in-Ok.seen) c.args.table.now c.args.columns.now) call.new.own call.result c.requires.stands c.in-Ok.ensures.ready
     c.in-Ok.ensures.txn (λ w before. refl) (stmt.CreateTable c.args.table.now c.args.columns.now) (plan.create_table (work_of c.in-Ok.seen) c.args.table.now c.args.columns.now) answer.Done refl (λ next w. create_table-alike w c.args.table.now c.args.columns.now) (λ next. refl)
     call.ensures.planned call.ensures.own
+
+pub returns-clause-stands : goal.returns-clause-stands
+returns-clause-stands g c =
+    let call = c.create_table_in-result in
+    let list = lists g.F.Held.name c.args.self.now c.begin.new.self call.new.own call.result c.requires.stands c.in-Ok.ensures.txn (stmt.CreateTable c.args.table.now c.args.columns.now) tt c.requires.sized call.ensures.same_own
+    (λ u. answer.Done) (returns-clause-done g c) in
+    stands g.F.Held.name c.args.self.now c.begin.new.self c.in-Ok.seen (table_creation (work_of c.in-Ok.seen) c.args.table.now c.args.columns.now) call.new.own call.result c.requires.stands c.in-Ok.ensures.ready
+    c.in-Ok.ensures.txn (λ w before. refl) call.new.seen c.in-Ok.ensures.view c.in-Ok.ensures.taken refl call.ensures.own call.ensures.same_own call.ensures.seen call.ensures.same_seen list
 
 pub returns-clause-refused : goal.returns-clause-refused
 returns-clause-refused g c =

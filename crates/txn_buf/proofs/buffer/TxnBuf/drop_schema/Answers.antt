@@ -4,15 +4,9 @@ use Rattle.lake_model.specs.Plans as plan
 use Rattle.lake_model.specs.declared.answer.Answer.TheVariants as answer
 use Rattle.txn_buf.specs.Drafts.{work_of}
 use Rattle.txn_buf.specs.Turns.{schema_drop}
-use Rattle.txn_buf.proofs.KeepLemmas.{does, refuses, stands}
+use Rattle.txn_buf.proofs.KeepLemmas.{does, lists, refuses, stands}
 use Rattle.txn_buf.proofs.PlanLemmas.{drop_schema-alike}
 use Rattle.txn_buf.proofs.buffer.TxnBuf.drop_schema.Goals as goal
-
-pub returns-clause-stands : goal.returns-clause-stands
-returns-clause-stands g c =
-    let call = c.drop_schema_in-result in
-    stands g.F.Held.name c.args.self.now c.begin.new.self c.in-Ok.seen (schema_drop (work_of c.in-Ok.seen) c.args.name.now) call.new.own call.result c.requires.stands c.in-Ok.ensures.ready
-    c.in-Ok.ensures.txn (λ w before. refl) call.new.seen c.in-Ok.ensures.view c.in-Ok.ensures.taken refl call.ensures.own call.ensures.same_own call.ensures.seen call.ensures.same_seen
 
 pub returns-clause-done : goal.returns-clause-done
 returns-clause-done g c =
@@ -20,6 +14,14 @@ returns-clause-done g c =
     does g.F.Held.name c.args.self.now c.begin.new.self c.in-Ok.seen (schema_drop (work_of c.in-Ok.seen) c.args.name.now) call.new.own call.result c.requires.stands c.in-Ok.ensures.ready
     c.in-Ok.ensures.txn (λ w before. refl) (stmt.DropSchema c.args.name.now) (plan.drop_schema (work_of c.in-Ok.seen) c.args.name.now) answer.Done refl (λ next w. drop_schema-alike w c.args.name.now) (λ next. refl)
     call.ensures.planned call.ensures.own
+
+pub returns-clause-stands : goal.returns-clause-stands
+returns-clause-stands g c =
+    let call = c.drop_schema_in-result in
+    let list = lists g.F.Held.name c.args.self.now c.begin.new.self call.new.own call.result c.requires.stands c.in-Ok.ensures.txn (stmt.DropSchema c.args.name.now) tt tt call.ensures.same_own
+    (λ u. answer.Done) (returns-clause-done g c) in
+    stands g.F.Held.name c.args.self.now c.begin.new.self c.in-Ok.seen (schema_drop (work_of c.in-Ok.seen) c.args.name.now) call.new.own call.result c.requires.stands c.in-Ok.ensures.ready
+    c.in-Ok.ensures.txn (λ w before. refl) call.new.seen c.in-Ok.ensures.view c.in-Ok.ensures.taken refl call.ensures.own call.ensures.same_own call.ensures.seen call.ensures.same_seen list
 
 pub returns-clause-refused : goal.returns-clause-refused
 returns-clause-refused g c =
