@@ -162,8 +162,8 @@ module _ {F : Type 0} (name : F → List ℕ) (size : F → ℕ) (bytes : F → 
     pub is : s ≡ record (nothing_for t.table) { fresh = file }
     pub holds : MayHoldCells (files_of folder) t.columns file t.rows
 
-  table_of : (t : FreshTable) (x : StagedTable F) → IsStagedFresh name size bytes images folder t x → x.table ≡ t.table
-  table_of t x s = ap (λ (y : NamedStagedTable). y.table) s.whole
+  same_table : (t : FreshTable) (x : StagedTable F) → IsStagedFresh name size bytes images folder t x → x.table ≡ t.table
+  same_table t x s = ap (λ (y : NamedStagedTable). y.table) s.whole
 
   none_found : (at : Ref) (ts : List FreshTable) (xs : List (StagedTable F)) → AllByRecursion (IsApartFrom at) ts → AreStaged ts xs
       → find (λ (s : NamedStagedTable). is_ref s.table at) (named_tables name size xs) ≡ None
@@ -178,7 +178,7 @@ module _ {F : Type 0} (name : F → List ℕ) (size : F → ℕ) (bytes : F → 
       go true e more [] all = absurd (let none : ⊥ = rw e at all in none)
       go true e more (x ∷ xs) all =
           let both : IsStagedFresh name size bytes images folder t x × AreStaged ts xs = rw e at all in
-          rw (ap (λ a. is_ref a at) (table_of t x both.0) ∙ apart.0) (more xs both.1)
+          rw (ap (λ a. is_ref a at) (same_table t x both.0) ∙ apart.0) (more xs both.1)
 
   other_for : (x : StagedTable F) (xs : List (StagedTable F)) (at : Ref) → is_ref x.table at ≡ false → staged_for (named_tables name size (x ∷ xs)) at ≡ staged_for (named_tables name size xs) at
   other_for x xs at other = rw other refl
@@ -204,8 +204,8 @@ module _ {F : Type 0} (name : F → List ℕ) (size : F → ℕ) (bytes : F → 
       go true e more (x ∷ xs) all =
           let both : IsStagedFresh name size bytes images folder t x × AreStaged ts xs = rw e at all in
           let s = both.0 in
-          let found : staged_for (named_tables name size (x ∷ xs)) t.table ≡ named_table name size x = rw (ap (λ a. is_ref a t.table) (table_of t x s) ∙ same_self t.table) refl in
-          (record { file = Some (named_file name size s.file); is = found ∙ s.whole; holds = s.holds }, others_for t x xs (table_of t x s) ts apart.0 (more xs both.1))
+          let found : staged_for (named_tables name size (x ∷ xs)) t.table ≡ named_table name size x = rw (ap (λ a. is_ref a t.table) (same_table t x s) ∙ same_self t.table) refl in
+          (record { file = Some (named_file name size s.file); is = found ∙ s.whole; holds = s.holds }, others_for t x xs (same_table t x s) ts apart.0 (more xs both.1))
 
   -- ---- that what is staged names each of them once
 
@@ -231,7 +231,7 @@ module _ {F : Type 0} (name : F → List ℕ) (size : F → ℕ) (bytes : F → 
       go true e more [] all = absurd (let none : ⊥ = rw e at all in none)
       go true e more (x ∷ xs) all =
           let both : IsStagedFresh name size bytes images folder t x × AreStaged ts xs = rw e at all in
-          let here : is_ref t.table x.table ≡ true = ap (is_ref t.table) (table_of t x both.0) ∙ same_self t.table in
+          let here : is_ref t.table x.table ≡ true = ap (is_ref t.table) (same_table t x both.0) ∙ same_self t.table in
           (ap (λ b. b || list_any (λ (u : FreshTable). is_ref u.table x.table) ts) here, known_more t ts (named_tables name size xs) (more xs both.1))
 
   none_any : (at : Ref) (ts : List FreshTable) (xs : List (StagedTable F)) → AllByRecursion (IsApartFrom at) ts → AreStaged ts xs
@@ -247,7 +247,7 @@ module _ {F : Type 0} (name : F → List ℕ) (size : F → ℕ) (bytes : F → 
       go true e more [] all = absurd (let none : ⊥ = rw e at all in none)
       go true e more (x ∷ xs) all =
           let both : IsStagedFresh name size bytes images folder t x × AreStaged ts xs = rw e at all in
-          ap₂ (λ b c. b || c) (ap (λ a. is_ref a at) (table_of t x both.0) ∙ apart.0) (more xs both.1)
+          ap₂ (λ b c. b || c) (ap (λ a. is_ref a at) (same_table t x both.0) ∙ apart.0) (more xs both.1)
 
   pub all_once : (ts : List FreshTable) (xs : List (StagedTable F)) → Apart ts → AreStaged ts xs → are_apart (named_tables name size xs) ≡ true
   all_once [] [] apart all = refl
@@ -261,7 +261,7 @@ module _ {F : Type 0} (name : F → List ℕ) (size : F → ℕ) (bytes : F → 
       go true e more (x ∷ xs) all =
           let both : IsStagedFresh name size bytes images folder t x × AreStaged ts xs = rw e at all in
           ap₂ (λ b c. not b && c)
-          (ap (λ a. list_any (λ (s : NamedStagedTable). is_ref s.table a) (named_tables name size xs)) (table_of t x both.0) ∙ none_any t.table ts xs apart.0 both.1)
+          (ap (λ a. list_any (λ (s : NamedStagedTable). is_ref s.table a) (named_tables name size xs)) (same_table t x both.0) ∙ none_any t.table ts xs apart.0 both.1)
           (more xs both.1)
 
   -- ---- the whole
