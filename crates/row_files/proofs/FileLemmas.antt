@@ -1,5 +1,5 @@
 -- A file of fresh rows that was written under a new name.
-use Rattle.std.proofs.Common.{◌≡◌, ◌≤◌, ℕ, Bool, true, false, List, length, length-append, Option, Some, None, OnSome, option_map, Result, refl, sym, ap, ◌∙◌, arith}
+use Rattle.std.proofs.Common.{◌≡◌, ◌≤◌, ℕ, Bool, true, false, List, length, length-append, Option, Some, None, OnSome, option_and_then, option_map, Result, refl, sym, ap, ◌∙◌, arith}
 use Rattle.std.specs.List.{AllZip}
 use Rattle.lake_types.specs.declared.limits.TheConstants.{MAX_PATH_BYTES}
 use Rattle.lake_types.specs.declared.value.Column.{Column}
@@ -12,12 +12,13 @@ use Rattle.new_files.specs.Writing.{AddsBytes}
 use Rattle.new_files.specs.declared.fault.NewFileNo.{NewFileNo}
 use Rattle.new_files.proofs.NameLemmas.{uuid_length}
 use Rattle.sheet_rows.specs.Sheets.{AreCounts, sheet_of, sheet_weight}
+use Rattle.cat_view.specs.Files.{Filed}
 use Rattle.cat_view.specs.Staged.{NamedStagedFile}
-use Rattle.row_files.specs.Folders.{filed, files_of, sheet_in}
-use Rattle.row_files.specs.Fresh.{AreFresh}
 use Rattle.cat_view.specs.Workable.{AreColumns}
+use Rattle.row_files.specs.Folders.{filed, files_of, sheet_in}
+use Rattle.row_files.specs.Fresh.{AreFresh, HoldAllBytes}
 use Rattle.row_files.specs.Staging.{AddsRows, WroteOne}
-use Rattle.row_files.proofs.FreshLemmas.{holds_cells}
+use Rattle.row_files.proofs.FreshLemmas.{holds_cells, holds_typed}
 
 -- ---- names are short
 
@@ -33,7 +34,7 @@ drawn_is_short deletes before now name drew = omega (arith, ap length drew.spell
 
 -- ---- the new file
 
-module _ (columns : List Column) (rows : List Cells) (are : AreColumns columns) (fresh : AreFresh columns rows) (x : NamedStagedFile) (told : Option (List ℕ))
+module _ (columns : List Column) (rows : List Cells) (are : AreColumns columns) (fresh : AreFresh columns rows) (held : HoldAllBytes (sheet_of columns rows).columns) (x : NamedStagedFile) (told : Option (List ℕ))
     (bytes : List ℕ) (images : Folder → Type 0) (sheet : sheet_in bytes ≡ Some (sheet_of columns rows)) (short : length x.name ≤ MAX_PATH_BYTES)
     (count : x.rows ≡ length rows) (weight : x.weight ≡ sheet_weight (sheet_of columns rows)) (stats : AllZip AreCounts (sheet_of columns rows).columns x.stats) where
   one_folder : (old new : Folder) → told ≡ Some bytes → x.size ≡ length bytes → AllHold x.name bytes images → AddsBytes x.name bytes old new
@@ -50,6 +51,7 @@ module _ (columns : List Column) (rows : List Cells) (are : AreColumns columns) 
       weight = sym weight;
       stats = stats;
     });
+    typed = holds_typed (files_of new) columns rows x.name are fresh held (ap (λ o. option_and_then (λ (f : Filed). f.sheet) (option_map filed o)) adds.there ∙ sheet);
     bytes = same ∙ sym adds.there;
     durable = λ image may. all image may ∙ sym adds.there;
     others = adds.others;
@@ -63,13 +65,13 @@ module _ (columns : List Column) (rows : List Cells) (are : AreColumns columns) 
   folders None (Some new) same size all adds = adds
 
 pub adds_rows : (columns : List Column) (rows : List Cells) (x : NamedStagedFile) (told : Option (List ℕ)) (bytes : List ℕ) (images : Folder → Type 0) (old new : Option Folder)
-    (drawn drawn_now : Option (List ℕ)) → AreColumns columns → AreFresh columns rows
+    (drawn drawn_now : Option (List ℕ)) → AreColumns columns → AreFresh columns rows → HoldAllBytes (sheet_of columns rows).columns
     → sheet_in bytes ≡ Some (sheet_of columns rows) → Drew false drawn drawn_now x.name
     → x.rows ≡ length rows → x.weight ≡ sheet_weight (sheet_of columns rows) → AllZip AreCounts (sheet_of columns rows).columns x.stats
     → OnSome old (told ≡ Some bytes) → OnSome old (x.size ≡ length bytes) → OnSome old (AllHold x.name bytes images)
     → Changes (AddsBytes x.name bytes) old new → Changes (AddsRows columns rows x told images) old new
-adds_rows columns rows x told bytes images old new drawn drawn_now are fresh sheet drew count weight stats same size all adds =
-    folders columns rows are fresh x told bytes images sheet (drawn_is_short false drawn drawn_now x.name drew) count weight stats old new same size all adds
+adds_rows columns rows x told bytes images old new drawn drawn_now are fresh held sheet drew count weight stats same size all adds =
+    folders columns rows are fresh held x told bytes images sheet (drawn_is_short false drawn drawn_now x.name drew) count weight stats old new same size all adds
 
 -- ---- on every answer
 

@@ -1,11 +1,12 @@
 -- The file of a table's fresh rows.
-use Rattle.std.proofs.Common.{◌≡◌, ◌≢◌, ◌≤◌, ◌<◌, ◌^◌, not, true, false, cond, List, [], ◌∷◌, length, map, filter, get_or, All, AllPairs, Some, inr, refl, sym, ap, ap₂, subst, ◌∙◌, arith, true≢false}
-use Rattle.std.specs.List.{AllZip, list_any, sum_by}
+use Rattle.std.proofs.Common.{◌≡◌, ◌≢◌, ◌≤◌, ◌<◌, ◌^◌, ℕ, not, true, false, cond, List, [], ◌∷◌, length, map, filter, get_or, All, AllPairs, Some, inr, refl, sym, ap, ap₂, subst, ◌∙◌, arith, true≢false}
+use Rattle.std.specs.List.{AllByRecursion, AllZip, list_any, sum_by}
 use Rattle.std.proofs.lemmas.List.{get_or-map, length-map}
 use Rattle.std.proofs.lemmas.List.Elements.{All-head, All-map, All-tail}
 use Rattle.std.proofs.lemmas.List.Sums.{sum_by-cons}
 use Rattle.std.proofs.lemmas.Bool.{ne_eqb}
 use Rattle.lake_types.specs.Cells.{laid_cells}
+use Rattle.lake_types.specs.Texts.{HoldsBytes}
 use Rattle.lake_types.specs.Weights.{row_weight}
 use Rattle.lake_types.specs.declared.limits.TheConstants.{MAX_FIELD, MAX_NAME_BYTES, MAX_PATH_BYTES, MAX_TXN_WEIGHT}
 use Rattle.lake_types.specs.declared.sheet.Sheet.{Sheet}
@@ -20,11 +21,12 @@ use Rattle.pq_file.specs.Writable.{IsCell, IsWritable, OtherField}
 use Rattle.sheet_rows.specs.Sheets.{AreCounts, HasCells, cells_of, column_weight, data_weight, file_cell, file_column, is_data, sheet_of, sheet_weight}
 use Rattle.sheet_rows.specs.Sheets as sheets
 use Rattle.sheet_rows.proofs.SheetLemmas.{reads_back, weighs_rows}
-use Rattle.cat_view.specs.Files.{Filed, Files}
+use Rattle.cat_view.specs.Files.{Filed, Files, sheet_at}
 use Rattle.cat_view.specs.Staged as staged
 use Rattle.cat_view.specs.Staged.{HasStats, HoldsCells, IsSealed, IsStagedFile, NamedStagedFile}
-use Rattle.row_files.specs.Fresh.{AreFresh, IsLaid, MayHold}
+use Rattle.cat_view.specs.Typed.{HoldsTyped, IsTyped}
 use Rattle.cat_view.specs.Workable.{AreColumns}
+use Rattle.row_files.specs.Fresh.{AreFresh, HoldAllBytes, IsLaid, MayHold}
 
 -- ---- rows that are laid
 
@@ -165,3 +167,28 @@ holds_cells files columns rows x are fresh held = record {
   without_ids = none_of_ids rows columns are.fields;
   cells = ap (map (laid_cells columns)) (reads_back columns rows ∙ all_laid columns rows fresh.laid) ∙ all_laid columns rows fresh.laid;
 }
+
+-- ---- of their columns' types
+
+typed_column : (rows : List Cells) (c : Column) → All (MayHold c) rows → All HoldsBytes (map (file_cell c) rows) → IsTyped (length rows) (file_column rows c)
+typed_column rows c may held = record {
+  count = length-map rows (file_cell c);
+  cells = λ k d lt. record { fits = fitting rows c may k d lt; bytes = held k d lt };
+}
+
+typed_columns : (rows : List Cells) (columns : List Column) → All (λ (c : Column). All (MayHold c) rows) columns → HoldAllBytes (map (file_column rows) columns)
+    → AllByRecursion (IsTyped (length rows)) (map (file_column rows) columns)
+typed_columns rows [] fit held = tt
+typed_columns rows (c ∷ columns) fit held = (
+  typed_column rows c (All-head (λ (x : Column). All (MayHold x) rows) c columns fit)
+      (All-head (λ (x : SheetColumn). All HoldsBytes x.cells) (file_column rows c) (map (file_column rows) columns) held),
+  typed_columns rows columns (All-tail (λ (x : Column). All (MayHold x) rows) c columns fit)
+      (All-tail (λ (x : SheetColumn). All HoldsBytes x.cells) (file_column rows c) (map (file_column rows) columns) held),
+)
+
+pub holds_typed : (files : Files) (columns : List Column) (rows : List Cells) (name : List ℕ) → AreColumns columns → AreFresh columns rows → HoldAllBytes (sheet_of columns rows).columns
+    → sheet_at files name ≡ Some (sheet_of columns rows) → HoldsTyped files name
+holds_typed files columns rows name are fresh held there sheet at =
+    let same : sheet_of columns rows ≡ sheet = cc in
+    subst (λ (s : Sheet). AllByRecursion (IsTyped s.rows) (filter is_data s.columns)) same
+    (subst (AllByRecursion (IsTyped (length rows))) (sym (all_data rows columns are.fields)) (typed_columns rows columns fresh.fit held))

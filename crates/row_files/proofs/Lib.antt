@@ -7,6 +7,7 @@ pub mod OwnLemmas
 pub mod JobLemmas
 pub mod GrowingLemmas
 pub mod StageLemmas
+pub mod ToldLemmas
 pub mod GrowthLemmas
 pub mod JoinLemmas
 pub mod FitsLemmas

@@ -1,5 +1,5 @@
 -- Tables that are staged one after the other.
-use Rattle.std.proofs.Common.{◌≡◌, ◌≢◌, ◌<◌, ◌≤◌, ◌^◌, ◌+◌, ◌++◌, ℕ, false, All, get_or, length, take, arith, List, [], ◌∷◌, map, append_assoc, Option, Some, None, IfNone, IfSome, IsSome, OnOk, Result, Ok, Err, option_map, inl, inr, refl, sym, ap, ap₂, subst, ◌∙◌, ◌⊎◌}
+use Rattle.std.proofs.Common.{◌≡◌, ◌≢◌, ◌<◌, ◌≤◌, ◌^◌, ◌+◌, ◌++◌, ℕ, false, All, get_or, length, take, arith, List, [], ◌∷◌, map, append_assoc, Option, Some, None, IfNone, IfSome, IsSome, OnOk, Result, Ok, Err, option_and_then, option_map, inl, inr, refl, sym, ap, ap₂, subst, ◌∙◌, ◌⊎◌}
 use Rattle.std.specs.List.{AllByRecursion, AllZip, cons_option}
 use Rattle.std.proofs.lemmas.List.{append-nil, get_or-map, length-map, map-append, take_all, take_more}
 use Rattle.lake_io.specs.Told.{Takes}
@@ -10,6 +10,7 @@ use Rattle.new_files.specs.Drawing.{Drew}
 use Rattle.new_files.specs.Names.{name_of}
 use Rattle.cat_view.specs.Files.{Filed}
 use Rattle.cat_view.specs.Staged.{HoldsCells, NamedStagedFile}
+use Rattle.cat_view.specs.Typed.{HoldsTyped}
 use Rattle.cat_view.specs.declared.staged.StagedFile.{StagedFile}
 use Rattle.cat_view.specs.declared.staged.StagedTable.{StagedTable}
 use Rattle.row_files.specs.Folders.{filed, files_of}
@@ -115,7 +116,7 @@ wrote_no a f i = wrote_at_most a a f f i i (inl (record { drawn = refl; files = 
 
 -- ---- what was staged before stays
 
-was_there : (at : Option (List ℕ)) (held : Filed) → option_map filed at ≡ Some held → at ≡ None → ⊥
+pub was_there : (at : Option (List ℕ)) (held : Filed) → option_map filed at ≡ Some held → at ≡ None → ⊥
 was_there None held there none = cc
 was_there (Some bytes) held there none = cc
 
@@ -143,8 +144,11 @@ later old new columns x rows same held =
       cells = held.cells;
     }
 
+typed_later : (old new : Folder) (name : List ℕ) → new name ≡ old name → HoldsTyped (files_of old) name → HoldsTyped (files_of new) name
+typed_later old new name same held sheet at = held sheet (ap (λ o. option_and_then (λ (f : Filed). f.sheet) (option_map filed o)) (sym same) ∙ at)
+
 module _ {F : Type 0} (name : F → List ℕ) (size : F → ℕ) (bytes : F → Option (List ℕ)) where
-  one_more : (x : StagedTable F) (xs : List (StagedTable F)) (file : StagedFile F) → x.fresh ≡ Some file → fresh_names name (x ∷ xs) ≡ name file.file ∷ fresh_names name xs
+  pub one_more : (x : StagedTable F) (xs : List (StagedTable F)) (file : StagedFile F) → x.fresh ≡ Some file → fresh_names name (x ∷ xs) ≡ name file.file ∷ fresh_names name xs
   one_more x xs file is = ap (λ o. cons_option (option_map (λ (f : StagedFile F). name f.file) o) (fresh_names name xs)) is
 
   joined : (o : Option (List ℕ)) (ns ms : List (List ℕ)) → cons_option o (ns ++ ms) ≡ cons_option o ns ++ ms
@@ -189,6 +193,7 @@ module _ {F : Type 0} (name : F → List ℕ) (size : F → ℕ) (bytes : F → 
           fresh = s.fresh;
           whole = s.whole;
           holds = later old new t.columns (named_file name size s.file) t.rows same s.holds;
+          typed = typed_later old new (name s.file.file) same s.typed;
           told = s.told ∙ sym same;
           durable = λ image may. let from = touches image may in from.others (name s.file.file) apart ∙ s.durable from.old from.was ∙ sym same;
         }
@@ -262,7 +267,7 @@ module _ {F : Type 0} (name : F → List ℕ) (size : F → ℕ) (bytes : F → 
         → Changes (AddsTables name size bytes (t ∷ []) (x ∷ []) can) f g
     one_folder can (Some f) (Some g) adds = record {
       absent = subst (AllByRecursion (λ n. f n ≡ None)) (sym one_name) (adds.fresh, tt);
-      holds = (record { file = file; fresh = fresh; whole = whole; holds = adds.holds; told = adds.bytes; durable = adds.durable }, tt);
+      holds = (record { file = file; fresh = fresh; whole = whole; holds = adds.holds; typed = adds.typed; told = adds.bytes; durable = adds.durable }, tt);
       others = subst (λ names. SameButThese names f g) (sym one_name) (λ other apart. adds.others other apart.0);
     }
     one_folder can None None adds = tt

@@ -2,8 +2,10 @@
 use Rattle.std.specs.Prelude.{◌≡◌, ◌≤◌, List, All, length}
 use Rattle.std.specs.List.{sum_by}
 use Rattle.lake_types.specs.Cells.{laid_cells}
+use Rattle.lake_types.specs.Texts.{HoldsBytes}
 use Rattle.lake_types.specs.Weights.{row_weight}
 use Rattle.lake_types.specs.declared.limits.TheConstants.{MAX_FILE_ROWS, MAX_TXN_WEIGHT}
+use Rattle.lake_types.specs.declared.sheet.SheetColumn.{SheetColumn}
 use Rattle.lake_types.specs.declared.value.Column.{Column}
 use Rattle.lake_model.specs.Apply.{Cells}
 use Rattle.pq_file.specs.Writable.{IsCell}
@@ -24,3 +26,7 @@ pub record AreFresh (columns : List Column) (rows : List Cells) : Type 0 where
   pub laid : All (IsLaid columns) rows
   pub fit : All (λ (c : Column). All (MayHold c) rows) columns
   pub light : sum_by row_weight rows ≤ MAX_TXN_WEIGHT
+
+-- the bytes of each cell of the columns are bytes
+abbrev pub HoldAllBytes : List SheetColumn → Type 0
+HoldAllBytes columns = All (λ (c : SheetColumn). All HoldsBytes c.cells) columns

@@ -1,5 +1,5 @@
 -- The fresh rows of several tables, staged one after the other.
-use Rattle.std.specs.Prelude.{◌≡◌, ◌≢◌, ◌<◌, ◌^◌, ℕ, false, List, [], ◌∷◌, ◌++◌, map, Option, Some, None, IfSome, IsSome, option_map, Result, Ok, Err}
+use Rattle.std.specs.Prelude.{◌≡◌, ◌≢◌, ◌<◌, ◌^◌, ℕ, false, List, [], ◌∷◌, ◌++◌, length, map, Option, Some, None, IfSome, IsSome, option_map, Result, Ok, Err}
 use Rattle.std.specs.List.{AllByRecursion, AllZip, filter_map}
 use Rattle.lake_io.specs.Told.{Takes}
 use Rattle.lake_types.specs.declared.value.Column.{Column}
@@ -10,6 +10,7 @@ use Rattle.new_files.specs.Names.{name_of}
 use Rattle.new_files.specs.declared.fault.NewFileNo.{NewFileNo}
 use Rattle.new_files.specs.declared.fault.NewFileNo.TheVariants as new_file_no
 use Rattle.cat_view.specs.Staged.{HoldsCells, NamedStagedFile, NamedStagedTable, nothing_for}
+use Rattle.cat_view.specs.Typed.{HoldsTyped}
 pub use Rattle.cat_view.specs.StagedNames.{named_staged_table as named_table, named_staged_tables as named_tables}
 use Rattle.cat_view.specs.declared.staged.StagedFile.{StagedFile}
 use Rattle.cat_view.specs.declared.staged.StagedTable.{StagedTable}
@@ -63,6 +64,10 @@ pub record AddsFresh {F : Type 0} (name : F → List ℕ) (size : F → ℕ) (ta
 abbrev pub fresh_names : {F : Type 0} → (F → List ℕ) → List (StagedTable F) → List (List ℕ)
 fresh_names name staged = filter_map (λ x. option_map (λ f. name f.file) x.fresh) staged
 
+-- their handles
+abbrev pub fresh_handles : {F : Type 0} → List (StagedTable F) → List F
+fresh_handles staged = filter_map (λ x. option_map (λ f. f.file) x.fresh) staged
+
 -- ---- what it did to the folder
 
 abbrev pub IsOther : List (List ℕ) → List ℕ → Type 0
@@ -110,12 +115,14 @@ pub record EndsAtTaken (before now : Option (List ℕ)) (old new : Option Folder
 -- ---- files of fresh rows
 
 module _ {F : Type 0} (name : F → List ℕ) (size : F → ℕ) (bytes : F → Option (List ℕ)) where
-  -- A file of the table's rows lies in the folder, and in every image of a crash. Nothing else is staged for it.
+  -- A file of the table's rows, of its columns' types, lies in the folder, and in every image of a crash. Nothing else is
+  -- staged for it.
   pub record IsStagedFresh (images : Folder → Type 0) (folder : Folder) (t : FreshTable) (x : StagedTable F) : Type 0 where
     pub file : StagedFile F
     pub fresh : x.fresh ≡ Some file
     pub whole : named_table name size x ≡ only_fresh t.table (named_file name size file)
     pub holds : HoldsCells (files_of folder) t.columns (named_file name size file) t.rows
+    pub typed : HoldsTyped (files_of folder) (name file.file)
     pub told : bytes file.file ≡ folder (name file.file)
     pub durable : (image : Folder) → images image → image (name file.file) ≡ folder (name file.file)
 
@@ -139,3 +146,10 @@ module _ {F : Type 0} (name : F → List ℕ) (size : F → ℕ) (bytes : F → 
     pub staged : List (StagedTable F)
     pub behind : all ≡ earlier ++ staged
     pub stages : StagesTables fresh before now old new could can staged
+
+  -- a handle tells the bytes that lie under its name, and their number as its size
+  pub record TellsBytes (folder : Folder) (file : F) : Type 0 where
+    pub content : List ℕ
+    pub there : folder (name file) ≡ Some content
+    pub size_is : length content ≡ size file
+    pub told : bytes file ≡ Some content

@@ -7,6 +7,7 @@ use Rattle.file_disk.specs.Folder.{AddsNone, Changes, Folder, MayBecomeAny, Same
 use Rattle.new_files.specs.Drawing.{Drew}
 use Rattle.sheet_rows.specs.Sheets.{AreCounts, sheet_of, sheet_weight}
 use Rattle.cat_view.specs.Staged.{HoldsCells, NamedStagedFile}
+use Rattle.cat_view.specs.Typed.{HoldsTyped}
 pub use Rattle.cat_view.specs.StagedNames.{named_staged_file as named_file}
 use Rattle.cat_view.specs.declared.staged.StagedFile.{StagedFile}
 use Rattle.row_files.specs.Folders.{files_of}
@@ -17,12 +18,13 @@ pub record Describes {F : Type 0} (columns : List Column) (cells : List Cells) (
   pub weight : x.weight ≡ sheet_weight (sheet_of columns cells)
   pub stats : AllZip AreCounts (sheet_of columns cells).columns x.stats
 
--- A file of these rows is new in the folder, and the others stay. Its bytes are told as they lie there, and every
--- image of a crash holds it.
+-- A file of these rows is new in the folder, of its columns' types, and the others stay. Its bytes are told as they lie
+-- there, and every image of a crash holds it.
 pub record AddsRows (columns : List Column) (cells : List Cells) (x : NamedStagedFile) (told : Option (List ℕ)) (images : Folder → Type 0)
     (old new : Folder) : Type 0 where
   pub fresh : old x.name ≡ None
   pub holds : HoldsCells (files_of new) columns x cells
+  pub typed : HoldsTyped (files_of new) x.name
   pub bytes : told ≡ new x.name
   pub durable : (image : Folder) → images image → image x.name ≡ new x.name
   pub others : SameBut x.name old new

@@ -1,12 +1,13 @@
-ghost use Rattle.std.specs.Prelude.{◌≡◌, ◌≤◌, ◌⊎◌, false, length, map, Some, IfOk, IfSome, IfNone, IsSome, IsErrOf};
+ghost use Rattle.std.specs.Prelude.{◌≡◌, ◌≤◌, ◌⊎◌, false, length, map, All, Some, IfOk, IfSome, IfNone, IsSome, OnOk, IsErrOf};
 ghost use Rattle.std.specs.List.{AllZip};
 ghost use Rattle.lake_io.specs.Causes.{Rose};
+ghost use Rattle.lake_types.specs.Texts.{HoldsBytes};
 ghost use Rattle.file_disk.specs.Folder.{Changes, MayBecomeAny, Same, Touches};
 ghost use Rattle.new_files.specs.Drawing.{Drew, IfTaken};
 ghost use Rattle.new_files.specs.declared.fault.NewFileNo.TheVariants as new_file_no;
 ghost use Rattle.sheet_rows.specs.Sheets as sheets;
 ghost use Rattle.row_files.specs.Folders.{sheet_in};
-ghost use Rattle.row_files.specs.Fresh.{AreFresh};
+ghost use Rattle.row_files.specs.Fresh.{AreFresh, HoldAllBytes};
 ghost use Rattle.cat_view.specs.Workable.{AreColumns};
 ghost use Rattle.row_files.specs.Own.{laid_rows, own_rows, rows_at as rows_inserted};
 ghost use Rattle.row_files.specs.Staging.{AddsRows, Describes, WroteNone, WroteOne, named_file};
@@ -15,7 +16,7 @@ use cat_view::{StagedFile, StatsList};
 use file_disk::FileDisk;
 use lake_io::Names;
 use lake_model::Change;
-use lake_types::{CellValues, Column, NoMemory, Sheet, SheetColumn, SheetColumns};
+use lake_types::{CellValues, Column, NoMemory, Sheet, SheetColumn, SheetColumns, Value};
 use new_files::{NewFileNo, write_new};
 use pq_file::write_file;
 use sheet_rows::{add_cells, column_stats, empty_column, sheet_weight};
@@ -102,6 +103,34 @@ fn own_sheet(
     })
 }
 
+/// Says that the bytes of a value are bytes, and does nothing. The type of a blob knows it; a contract sees a list of
+/// numbers.
+fn holds_bytes(value: &Value)
+    ensures { HoldsBytes value.now }
+{
+    if let Value::Bytes(bytes) = value {
+        let _bytes = bytes.as_slice();
+    }
+}
+
+/// Says so of each cell.
+fn hold_bytes(cells: &[Value])
+    ensures { All HoldsBytes cells.now }
+{
+    for cell in cells {
+        holds_bytes(cell);
+    }
+}
+
+/// Says so of each cell of the columns.
+fn columns_hold_bytes(columns: &[SheetColumn])
+    ensures { HoldAllBytes columns.now }
+{
+    for column in columns {
+        hold_bytes(column.cells.as_slice());
+    }
+}
+
 #[tactic(auto, using(crate::proofs::LaidLemmas::sheet_laid, crate::proofs::LaidLemmas::laid_count))]
 fn prepare(
     alloc: Global,
@@ -112,16 +141,19 @@ fn prepare(
     requires columns { AreColumns columns.now }
     requires rows { AreFresh columns.now (laid_rows columns.now own.now places.now) }
     ensures sheet { IfOk result (λ made. sheet_in made.bytes.items ≡ Some (sheets.sheet_of columns.now (laid_rows columns.now own.now places.now))) }
+    ensures bytes { OnOk result (HoldAllBytes (sheets.sheet_of columns.now (laid_rows columns.now own.now places.now)).columns) }
     ensures rows { IfOk result (λ made. made.rows ≡ length (laid_rows columns.now own.now places.now)) }
     ensures weight { IfOk result (λ made. made.weight ≡ sheets.sheet_weight (sheets.sheet_of columns.now (laid_rows columns.now own.now places.now))) }
     ensures stats { IfOk result (λ made.
         AllZip sheets.AreCounts (sheets.sheet_of columns.now (laid_rows columns.now own.now places.now)).columns made.stats) }
 {
     let sheet = own_sheet(alloc, columns, own, places)?;
+    let laid = sheet.columns.as_slice();
+    columns_hold_bytes(laid);
     let Some(weight) = sheet_weight(&sheet) else {
         unreachable!();
     };
-    let stats = column_stats(alloc, columns, sheet.columns.as_slice())?;
+    let stats = column_stats(alloc, columns, laid)?;
     let bytes = write_file(alloc, &sheet)?;
     Ok(Prepared {
         bytes,

@@ -7,6 +7,7 @@ ghost use Rattle.lake_model.specs.Fits.{Fits};
 ghost use Rattle.lake_model.specs.Growth.{IsGrowth};
 ghost use Rattle.lake_model.specs.State.{State};
 ghost use Rattle.cat_view.specs.Staged.{IsStaged};
+ghost use Rattle.cat_view.specs.Typed.{HoldsTyped};
 ghost use Rattle.cat_view.specs.Views.{named_tables, named_view};
 ghost use Rattle.row_files.specs.Folders.{files_of};
 ghost use Rattle.row_files.specs.Growing.{HasTables, fresh_tables};
@@ -216,6 +217,11 @@ pub fn stage<D: FileDisk, N: Names>(
         → HasTables (named_view D.File.name view.now) state → Fits state txn.now.own
         → IsStaged (files_of folder) (named_view D.File.name view.now) state txn.now.own
         (spec.named_tables D.File.name D.File.size staged.tables.items))) }
+    ensures typed { IfOk result (λ staged. IfSome (D.files disk.new) (λ folder.
+        AllByRecursion (HoldsTyped (files_of folder)) (spec.fresh_names D.File.name staged.tables.items))) }
+    ensures told { IfOk result (λ staged. IfSome (D.files disk.new) (λ folder.
+        AllByRecursion (spec.TellsBytes D.File.name D.File.size D.File.bytes folder)
+        (spec.fresh_handles staged.tables.items))) }
 
     ensures taken { spec.IfTakenName result (spec.EndsAtTaken (N.drawn names.old) (N.drawn names.new)
         (D.files disk.old) (D.files disk.new)) }

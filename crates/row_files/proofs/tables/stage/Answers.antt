@@ -6,6 +6,7 @@ use Rattle.row_files.specs.Stages.{CanBeStaged, StagesTables}
 use Rattle.row_files.proofs.FitsLemmas.{all_fields, can_be_staged}
 use Rattle.row_files.proofs.GrowingLemmas.{jobs_of_view}
 use Rattle.row_files.proofs.JoinLemmas.{stands}
+use Rattle.row_files.proofs.ToldLemmas.{stages_told, stages_typed}
 use Rattle.row_files.proofs.tables.stage.Goals as goal
 
 pub stage_jobs-requires : goal.stage_jobs-requires
@@ -37,3 +38,9 @@ returns-in-Ok-stage_jobs-clause-stands g c =
     (jobs_of_view (named_view h.name c.args.view.now) (named_tables h.name c.tables-tables.result.now) c.args.txn.now.own c.as_slice-own.result.now (get is_ref c.in-Ok.kept) c.as_slice.result.now c.tables-tables.ensures
     c.as_slice-own.ensures (c.as_slice.ensures.value ∙ c.in-Ok-jobs_of.ensures) c.in-Ok.ensures c.requires.growth (all_fields c.requires.fits.0 [] c.args.txn.now.own c.requires.fits.2 c.requires.growth))
     c.in-Ok-stage_jobs.ensures.staged)
+
+pub returns-in-Ok-stage_jobs-clause-typed : goal.returns-in-Ok-stage_jobs-clause-typed
+returns-in-Ok-stage_jobs-clause-typed g c = let h = g.D.File.Held in stages_typed h.name h.size h.bytes _ _ _ _ _ _ _ _ c.in-Ok-stage_jobs.ensures.staged
+
+pub returns-in-Ok-stage_jobs-clause-told : goal.returns-in-Ok-stage_jobs-clause-told
+returns-in-Ok-stage_jobs-clause-told g c = let h = g.D.File.Held in stages_told h.name h.size h.bytes _ _ _ _ _ _ _ _ c.in-Ok-stage_jobs.ensures.staged
