@@ -41,7 +41,7 @@ use Rattle.commit_rules.proofs.TableLemmas.{In, all-put_all, all_by, all_in}
 
 -- ---- the last of some rows
 
-last_mapped : {X Y : Type 0} (f : X → Y) (xs : List X) → last (map f xs) ≡ option_map f (last xs)
+pub last_mapped : {X Y : Type 0} (f : X → Y) (xs : List X) → last (map f xs) ≡ option_map f (last xs)
 last_mapped f [] = refl
 last_mapped f (x ∷ []) = refl
 last_mapped f (x ∷ y ∷ xs) = last_mapped f (y ∷ xs)
@@ -93,7 +93,7 @@ less_readable : (old_type new_type : List ℕ) → ((text : List ℕ) → IsRead
 less_readable old_type new_type reads None bad = bad
 less_readable old_type new_type reads (Some text) bad = λ readable. bad (reads text readable)
 
-two_numbers : {a b d e : ℕ} → a ∷ b ∷ [] ≡ d ∷ e ∷ [] → (a ≡ d) × (b ≡ e)
+pub two_numbers : {a b d e : ℕ} → a ∷ b ∷ [] ≡ d ∷ e ∷ [] → (a ≡ d) × (b ≡ e)
 two_numbers same = (cc, cc)
 
 module _ (t : Tables) (head : SnapshotRow) (p : Parts) (endings : Endings) (c : IsCommit t head p endings) where

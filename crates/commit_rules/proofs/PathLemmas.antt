@@ -64,7 +64,7 @@ one_path f (x ∷ xs) up a b (inl ea) (inr hb) same = absurd (all_in (λ y. f x 
 one_path f (x ∷ xs) up a b (inr ha) (inl eb) same = absurd (all_in (λ y. f x ≢ f y) a xs up.0 ha (ap f eb ∙ sym same))
 one_path f (x ∷ xs) up a b (inr ha) (inr hb) same = one_path f xs up.1 a b ha hb same
 
-not_below_itself : {X : Type 0} (key : X → List ℕ) (a b : X) → a ≡ b → IsBelow key a b → ⊥
+pub not_below_itself : {X : Type 0} (key : X → List ℕ) (a b : X) → a ≡ b → IsBelow key a b → ⊥
 not_below_itself key a b same below = true≢false (sym (same_key key a) ∙ ap (λ x. is_eq (key_cmp (key a) (key x))) same ∙ ap is_eq below)
 
 -- none of the others has the path of one of these

@@ -29,7 +29,8 @@ use Rattle.lake_rebase.specs.Tidy.{AreTidyColumns, HasSchema, IsTidy}
 use Rattle.lake_rebase.proofs.MemberLemmas.{In, all_by, all_in, below, in_cases, in_kept, in_left, in_map, in_of, in_right, is_same, kept_in, map_in, name-is, named-there, of_in, one_of_id}
 use Rattle.lake_rebase.proofs.MakeLemmas.{IsOldSchema, dropped-schema, schema-new, schemas-of, schemas-of-made, schemas-of-old, table-new, tables-of-made, tables-of-old}
 use Rattle.lake_rebase.proofs.ToldLemmas.{inserts-told, kinds-alike, schema-told, table-told}
-use Rattle.lake_rebase.proofs.WorkLemmas.{HasHome, TidyWork, ref-same, tidy-worked}
+use Rattle.lake_model.proofs.RefLemmas.{ref-same}
+use Rattle.lake_rebase.proofs.WorkLemmas.{HasHome, TidyWork, tidy-worked}
 
 -- ---- what a list drops is known
 

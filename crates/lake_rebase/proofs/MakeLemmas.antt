@@ -25,7 +25,8 @@ use Rattle.lake_model.proofs.ApplyLemmas.{by_table}
 use Rattle.lake_model.proofs.CreationLemmas.{altered-at, schemas-after}
 use Rattle.lake_model.proofs.GrowthLemmas.{grows, made-tables}
 use Rattle.lake_rebase.proofs.MemberLemmas.{In, all_in, in_cases, in_kept, in_left, in_map, in_right, kept_in, map_in, same_is}
-use Rattle.lake_rebase.proofs.WorkLemmas.{Allowed, ref-same}
+use Rattle.lake_model.proofs.RefLemmas.{ref-same}
+use Rattle.lake_rebase.proofs.WorkLemmas.{Allowed}
 
 -- ---- references
 

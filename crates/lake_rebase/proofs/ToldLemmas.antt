@@ -24,7 +24,8 @@ use Rattle.lake_model.specs.declared.change.RowRef.TheVariants as row_ref
 use Rattle.lake_model.proofs.FieldLemmas.{worked-more}
 use Rattle.lake_rebase.proofs.MemberLemmas.{In, in_right}
 use Rattle.lake_rebase.proofs.MakeLemmas.{IsEarly, early-begun, early-changed, in-kinds, ref-turned}
-use Rattle.lake_rebase.proofs.WorkLemmas.{allowed, ref-is, ref-same}
+use Rattle.lake_model.proofs.RefLemmas.{ref-is, ref-same}
+use Rattle.lake_rebase.proofs.WorkLemmas.{allowed}
 
 -- ---- made schemas and tables
 

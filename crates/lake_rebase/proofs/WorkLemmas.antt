@@ -4,7 +4,7 @@ use Rattle.std.specs.Prelude.{nat_lt}
 use Rattle.std.proofs.lemmas.List.{append-nil}
 use Rattle.std.specs.List.{AllByRecursion, list_any}
 use Rattle.std.specs.Option.{option_map}
-use Rattle.std.proofs.lemmas.Bool.{eq-eqb, eqb-true, not-false}
+use Rattle.std.proofs.lemmas.Bool.{not-false}
 use Rattle.lake_types.specs.Cells.{column_named}
 use Rattle.lake_types.specs.Fits.{fits}
 use Rattle.lake_types.specs.declared.limits.TheConstants.{MAX_COLUMNS}
@@ -31,7 +31,8 @@ use Rattle.lake_model.specs.declared.change.Ref.{Ref}
 use Rattle.lake_model.specs.declared.change.Ref.TheVariants as ref
 use Rattle.lake_model.proofs.FieldLemmas.{worked-more}
 use Rattle.lake_model.proofs.PlanLemmas as plan
-use Rattle.lake_model.proofs.PlanLemmas.{columns-length, fields-are}
+use Rattle.lake_model.proofs.PlanLemmas.{columns-length, fields-are, first_none, not_refused}
+use Rattle.lake_model.proofs.RefLemmas.{ref-is, ref-same}
 use Rattle.lake_rebase.specs.Tidy.{AreTidyColumns, IsTidy, IsTidyColumn}
 use Rattle.lake_rebase.proofs.MemberLemmas.{In, all_by, all_in, found_in, in_cases, in_kept, in_left, in_map, in_of, is_same, kept_in, map_in, none_in, of_in}
 
@@ -47,21 +48,6 @@ pub record TidyWork (w : Work) : Type 0 where
   pub homes : (d : Draft) → In d w.tables → HasHome w d.schema
   pub table_names : (d e : Draft) → In d w.tables → In e w.tables → d.schema ≡ e.schema → d.name ≡ e.name → d.at ≡ e.at
   pub columns : AllByRecursion (λ (d : Draft). AreTidyColumns d.columns) w.tables
-
--- ---- references
-
-pub ref-same : (a b : Ref) → is_ref a b ≡ true → a ≡ b
-ref-same (ref.Old a) (ref.Old b) e = ap ref.Old (eqb-true a b e)
-ref-same (ref.New a) (ref.New b) e = ap ref.New (eqb-true a b e)
-ref-same (ref.Old a) (ref.New b) e = absurd cc
-ref-same (ref.New a) (ref.Old b) e = absurd cc
-
-pub ref-is : (a b : Ref) → a ≡ b → is_ref a b ≡ true
-ref-is a b e = subst (λ c. is_ref a c ≡ true) e (self a)
-  where
-    self : (a : Ref) → is_ref a a ≡ true
-    self (ref.Old a) = eq-eqb a a refl
-    self (ref.New a) = eq-eqb a a refl
 
 -- ---- what a statement's change is
 
@@ -83,14 +69,6 @@ Allowed w c = Unit {0}
 given : (K : Change → Type 0) (f : Option Answer) (q : Plan) → (f ≡ None → plan.Holds K q) → plan.Holds K (unless f q)
 given K None q h = h refl
 given K (Some a) q h = plan.refuses K a
-
-not_refused : (b : Bool) (a : Answer) → refused_if b a ≡ None → b ≡ false
-not_refused true a e = absurd cc
-not_refused false a e = refl
-
-first_none : (f g : Option Answer) → or_else f g ≡ None → (f ≡ None) × (g ≡ None)
-first_none None g e = (refl, e)
-first_none (Some a) g e = absurd cc
 
 mapped_none : {X Y : Type 0} (f : X → Y) (o : Option X) → not (is_none (option_map f o)) ≡ false → o ≡ None
 mapped_none f None e = refl

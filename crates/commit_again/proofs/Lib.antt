@@ -1,4 +1,0 @@
-pub mod RiseLemmas
-mod ApartLemmas
-mod FitLemmas
-pub mod TidyLemmas

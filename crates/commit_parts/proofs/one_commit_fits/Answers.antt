@@ -1,5 +1,0 @@
-use Rattle.commit_parts.proofs.ExampleLemmas.{one_commit-fits}
-use Rattle.commit_parts.proofs.one_commit_fits.Goals as goal
-
-pub returns : goal.returns
-returns c = one_commit-fits

@@ -1,8 +1,0 @@
-use Rattle.commit_parts.proofs.PartLemmas.{heads-are, parts-are}
-use Rattle.commit_parts.proofs.parts_are.Goals as goal
-
-pub returns-clause-head : goal.returns-clause-head
-returns-clause-head c = heads-are
-
-pub returns-clause-parts : goal.returns-clause-parts
-returns-clause-parts c = parts-are

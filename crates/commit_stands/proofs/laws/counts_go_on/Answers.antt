@@ -1,9 +1,0 @@
-use Rattle.commit_stands.proofs.CountedLemmas.{counts-go_on}
-use Rattle.commit_stands.proofs.CounterLemmas.{counters-go_on}
-use Rattle.commit_stands.proofs.laws.counts_go_on.Goals as goal
-
-pub returns-clause-counters : goal.returns-clause-counters
-returns-clause-counters c = counters-go_on
-
-pub returns-clause-counts : goal.returns-clause-counts
-returns-clause-counts c = counts-go_on

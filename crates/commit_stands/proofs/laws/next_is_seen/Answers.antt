@@ -1,8 +1,0 @@
-use Rattle.commit_stands.proofs.PlainLemmas.{next-is-plain, next-is-seen}
-use Rattle.commit_stands.proofs.laws.next_is_seen.Goals as goal
-
-pub returns-clause-version : goal.returns-clause-version
-returns-clause-version c = next-is-seen
-
-pub returns-clause-plain : goal.returns-clause-plain
-returns-clause-plain c = next-is-plain
