@@ -1,0 +1,11 @@
+pub mod Shown
+pub mod Stands
+pub mod Commits
+pub mod Calls
+pub mod Listing
+pub mod Holding
+pub mod Readable
+pub mod Workable
+pub mod Names
+pub mod Makeable
+pub mod Laws
