@@ -3,6 +3,7 @@ use Rattle.std.proofs.Common.{◌≡◌, ◌<◌, ◌-◌, ◌^◌, ℕ, zero, s
 use Rattle.std.specs.Int.{byte_at, bytes_high_first, from_be_bytes, to_be_bytes, w128}
 use Rattle.std.proofs.lemmas.List.{drop_at, take_at}
 use Rattle.std.proofs.lemmas.List.Elements.{All-cons, All-nil}
+use Rattle.std.proofs.lemmas.Option.{same_Some}
 use Rattle.uuid.specs.Text.{lower, parsed}
 use Rattle.uuid.proofs.RoundTrips.{parses_hyphenated}
 use Rattle.uuid.proofs.TextLemmas.{by_index_length}
@@ -23,13 +24,10 @@ parses text own =
     subst (λ (t : List ℕ). Some (to_be_bytes w128 own.number) ≡ parsed t) (sym own.spells)
     (parses_hyphenated lower (to_be_bytes w128 own.number) (inl refl) refl (small_bytes 16 own.number))
 
-some_in : {A : Type 0} {a b : A} → Some a ≡ Some b → a ≡ b
-some_in e = cc
-
 -- what is written again is the text
 pub again : (text id : List ℕ) (own : IsUuid text) → Some id ≡ parsed text → uuid_of (from_be_bytes w128 id) ≡ text
 again text id own read =
-    let bytes : id ≡ to_be_bytes w128 own.number = some_in (read ∙ sym (parses text own)) in
+    let bytes : id ≡ to_be_bytes w128 own.number = same_Some _ _ (read ∙ sym (parses text own)) in
     ap (λ (b : List ℕ). uuid_of (from_be_bytes w128 b)) bytes ∙ ap uuid_of (from_be_bytes-to_be_bytes_16 own.number own.small) ∙ sym own.spells
 
 pub ends : (name front end : List ℕ) → name ≡ front ++ end → drop (length name - length end) name ≡ end
@@ -47,7 +45,7 @@ same_number : (a b : ℕ) → a < 2 ^ 128 → b < 2 ^ 128 → uuid_of a ≡ uuid
 same_number a b small_a small_b same =
     let is_a : IsUuid (uuid_of a) = record { number = a; small = small_a; spells = refl } in
     let is_b : IsUuid (uuid_of a) = record { number = b; small = small_b; spells = same } in
-    let bytes : to_be_bytes w128 a ≡ to_be_bytes w128 b = some_in (parses (uuid_of a) is_a ∙ sym (parses (uuid_of a) is_b)) in
+    let bytes : to_be_bytes w128 a ≡ to_be_bytes w128 b = same_Some _ _ (parses (uuid_of a) is_a ∙ sym (parses (uuid_of a) is_b)) in
     sym (from_be_bytes-to_be_bytes_16 a small_a) ∙ ap (from_be_bytes w128) bytes ∙ from_be_bytes-to_be_bytes_16 b small_b
 
 same_ending : (a b : Bool) → ending a ≡ ending b → a ≡ b

@@ -4,6 +4,10 @@ use Rattle.file_disk.specs.Folder.{Folder, MayBecomeAny, Same, SameBut, StaysIfT
 use Rattle.file_disk.specs.declared.fault.DiskNo.{DiskNo}
 use Rattle.file_disk.specs.declared.fault.DiskNo.TheVariants.{Exists}
 
+-- what was there stays
+abbrev pub Stays : Folder → Folder → Type 0
+Stays old new = (name : List ℕ) → StaysIfThere (old name) (new name)
+
 -- a name that wasn't there has these bytes now, and each other name has what it had
 pub record AddsBytes (name bytes : List ℕ) (old new : Folder) : Type 0 where
   pub fresh : old name ≡ None

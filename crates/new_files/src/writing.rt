@@ -5,7 +5,7 @@ ghost use Rattle.file_disk.specs.Calls.{HasCause, AllHold};
 ghost use Rattle.file_disk.specs.Folder.{Changes, MayBecomeAny, Same, StaysIfThere, Touches};
 ghost use Rattle.file_disk.specs.declared.fault.DiskNo.TheVariants as disk_no;
 ghost use Rattle.new_files.specs.Drawing.{Drew, IfTaken, Wrote, refusal};
-ghost use Rattle.new_files.specs.Writing.{AddsBytes, MayLeave, Writes};
+ghost use Rattle.new_files.specs.Writing.{AddsBytes, MayLeave, Stays, Writes};
 ghost use Rattle.new_files.specs.declared.fault.NewFileNo.TheVariants as new_file_no;
 
 use crate::fault::NewFileNo;
@@ -19,7 +19,7 @@ use std::alloc::Global;
 /// is synced.
 ///
 /// `DiskNo::Exists` tells that the name is there; then nothing changed. After another refusal a part of the
-/// file may lie under the name.
+/// file may lie under the name. What was there before stays on every answer.
 pub fn write_as<D: FileDisk>(
     alloc: Global,
     disk: &mut D,
@@ -40,6 +40,7 @@ pub fn write_as<D: FileDisk>(
     ensures cause { HasCause (D.faults disk.old) (D.faults disk.new) result }
 
     ensures files { Changes (Writes name.now bytes.now result) (D.files disk.old) (D.files disk.new) }
+    ensures stays { Changes Stays (D.files disk.old) (D.files disk.new) }
     ensures images { Touches (MayLeave result) name.now (D.images disk.old) (D.images disk.new) }
     ensures opens { D.opens disk.new ≡ D.opens disk.old }
     ensures part { D.part disk.new ≡ D.part disk.old }
@@ -100,7 +101,7 @@ pub fn write_new<D: FileDisk, N: Names>(
     ensures exists { IfTaken result (λ name. IfSome (D.files disk.old) (λ old. IsSome (old name))) }
     ensures exists_untold { IfTaken result (λ _.
         IfNone (D.files disk.old) (Rose (D.faults disk.old) (D.faults disk.new))) }
-    ensures stays { IfTaken result (λ _. Changes Same (D.files disk.old) (D.files disk.new)) }
+    ensures unchanged { IfTaken result (λ _. Changes Same (D.files disk.old) (D.files disk.new)) }
     ensures stays_in_images { IfTaken result (λ name.
         Touches StaysIfThere name (D.images disk.old) (D.images disk.new)) }
 
@@ -110,6 +111,7 @@ pub fn write_new<D: FileDisk, N: Names>(
     // On every answer.
     ensures wrote { Wrote deletes (N.drawn names.old) (N.drawn names.new) (D.files disk.old) (D.files disk.new)
         (D.images disk.old) (D.images disk.new) result }
+    ensures stays { Changes Stays (D.files disk.old) (D.files disk.new) }
     ensures opens { D.opens disk.new ≡ D.opens disk.old }
     ensures part { D.part disk.new ≡ D.part disk.old }
 {
