@@ -33,8 +33,9 @@ use Rattle.lake_model.specs.declared.change.Change.{Change}
 use Rattle.lake_model.specs.declared.change.Change.TheVariants as change
 use Rattle.lake_model.specs.declared.change.Ref.{Ref}
 use Rattle.lake_model.specs.declared.change.Ref.TheVariants as ref
-use Rattle.lake_model.proofs.FieldLemmas.{worked-more}
+use Rattle.lake_model.proofs.FieldLemmas.{Differ, worked-more}
 use Rattle.lake_model.proofs.PlanLemmas as plan
+use Rattle.lake_model.proofs.RefLemmas.{ref-is, ref_turned}
 use Rattle.pq_file.specs.Writable.{IsCell, IsShort}
 use Rattle.cat_view.specs.Named.{NamedTable, NamedVersion}
 use Rattle.row_files.specs.Fresh.{IsLaid, MayHold}
@@ -43,23 +44,8 @@ use Rattle.row_files.specs.Growing.{HasFields, HasTables, IsSameTable, fresh_of,
 use Rattle.row_files.specs.Own.{IsEarlier}
 use Rattle.row_files.specs.Stages.{CanBeStaged}
 use Rattle.lake_model.proofs.GrowthLemmas.{left_laid}
-use Rattle.row_files.proofs.JoinLemmas.{drafts_are, same_self}
+use Rattle.row_files.proofs.JoinLemmas.{drafts_are}
 use Rattle.row_files.proofs.LaidLemmas.{kept, laid_twice, same_number}
-use Rattle.row_files.proofs.OwnLemmas.{turned}
-
--- ---- faults that don't stand
-
-first_none : (a b : Option Answer) → or_else a b ≡ None → (a ≡ None) × (b ≡ None)
-first_none None b none = (refl, none)
-first_none (Some a) b none = absurd cc
-
-not_refused : (b : Bool) (a : Answer) → refused_if b a ≡ None → b ≡ false
-not_refused true a none = absurd cc
-not_refused false a none = refl
-
-unless_none : (K : Change → Type 0) (f : Option Answer) (q : Plan) → (f ≡ None → plan.Holds K q) → plan.Holds K (unless f q)
-unless_none K None q h = h refl
-unless_none K (Some a) q h = plan.refuses K a
 
 -- ---- what a change was planned of
 
@@ -104,7 +90,7 @@ alters-planned next w (alter.SetDefault name v) d = plan.of_column-holds (Planne
 
 few_columns : (a b c : Option Answer) (n : ℕ) (why : Answer) → or_else a (or_else (refused_if (nat_lt MAX_COLUMNS n) why) c) ≡ None → n ≤ MAX_COLUMNS
 few_columns a b c n why none =
-    let over : nat_lt MAX_COLUMNS n ≡ false = not_refused (nat_lt MAX_COLUMNS n) why (first_none (refused_if (nat_lt MAX_COLUMNS n) why) c (first_none a _ none).1).0 in
+    let over : nat_lt MAX_COLUMNS n ≡ false = plan.not_refused (nat_lt MAX_COLUMNS n) why (plan.first_none (refused_if (nat_lt MAX_COLUMNS n) why) c (plan.first_none a _ none).1).0 in
     grind (arith, over)
 
 plans : (next : ℕ) (w : Work) (x : Stmt) → plan.Holds (Planned w) (s.plan_in next w x)
@@ -112,11 +98,11 @@ plans next w (stmt.CreateSchema name) = plan.unless-holds (Planned w) _ _ (plan.
 plans next w (stmt.DropSchema name) = plan.in_schema-holds (Planned w) name _ (p.schema_named w name) (λ at named. plan.unless-holds (Planned w) _ _ (plan.appends (Planned w) _ _ tt))
 plans next w (stmt.CreateTable table defs) =
     plan.in_schema-holds (Planned w) table.schema _ (p.schema_named w table.schema)
-    (λ at named. unless_none (Planned w) _ _ (λ none. plan.appends (Planned w) _ _ (record { defs = defs; are = refl; few = few_columns _ None _ (length defs) _ none })))
+    (λ at named. plan.unless-none (Planned w) _ _ (λ none. plan.appends (Planned w) _ _ (record { defs = defs; are = refl; few = few_columns _ None _ (length defs) _ none })))
 plans next w (stmt.DropTable table) = plan.on_table-holds (Planned w) w table _ (λ at d found. plan.appends (Planned w) _ _ tt)
 plans next w (stmt.Change table x) = plan.on_table-holds (Planned w) w table _ (λ at d found. alters-planned next w x d)
 plans next w (stmt.Insert table rows) =
-    plan.on_table-holds (Planned w) w table _ (λ at d found. unless_none (Planned w) (r.rows_fault d.columns rows) _ (λ none. insertion-planned w d _ rows found none))
+    plan.on_table-holds (Planned w) w table _ (λ at d found. plan.unless-none (Planned w) (r.rows_fault d.columns rows) _ (λ none. insertion-planned w d _ rows found none))
 plans next w (stmt.Delete table test) = plan.on_table-holds (Planned w) w table _ (λ at d found. plan.unless-holds (Planned w) _ _ (deletion-planned w d _))
 plans next w (stmt.Update table set test) = plan.on_table-holds (Planned w) w table _ (λ at d found. plan.unless-holds (Planned w) _ _ (updating-planned w d _ _))
 plans next w (stmt.Compact table) = plan.on_table-holds (Planned w) w table _ (λ at d found. plan.appends (Planned w) _ _ tt)
@@ -185,14 +171,14 @@ short_cell (value.Int n) h = tt
 short_cell (value.Date d) h = tt
 
 cell_fits : (c : Column) (x : Cell) → r.cell_fault c x ≡ None → fits (r.given c x) c.ty ≡ true
-cell_fits c x none = not-false (fits (r.given c x) c.ty) (not_refused (not (fits (r.given c x) c.ty)) _ (first_none _ _ none).0)
+cell_fits c x none = not-false (fits (r.given c x) c.ty) (plan.not_refused (not (fits (r.given c x) c.ty)) _ (plan.first_none _ _ none).0)
 
 row_fits : (columns : List Column) (row : List Cell) → AllPairs HasOtherField columns → length columns ≡ length row → r.cells_fault columns row ≡ None → AreCells (r.cells_of columns row)
     → All (λ c. MayHold c (r.cells_of columns row)) columns
 row_fits [] row apart count none sized = λ i d within. absurd (omega (arith, within))
 row_fits (c ∷ columns) [] apart count none sized = absurd (omega (arith, count))
 row_fits (c ∷ columns) (x ∷ row) apart count none sized =
-    let both = first_none (r.cell_fault c x) (r.cells_fault columns row) none in
+    let both = plan.first_none (r.cell_fault c x) (r.cells_fault columns row) none in
     let rest : All (λ d. MayHold d (r.cells_of columns row)) columns =
     row_fits columns row (λ i j d lt within. apart (suc i) (suc j) d (omega (arith, lt)) (omega (arith, within))) (omega (arith, count)) both.1 sized.1 in
     let one : IsCell c.ty (r.given c x) = record { short = short_cell (r.given c x) sized.0; fits = cell_fits c x both.0 } in
@@ -218,8 +204,8 @@ pub record IsGood (most : ℕ) (d : Draft) : Type 0 where
 good_row : (columns : List Column) (row : List Cell) → AllPairs HasOtherField columns → r.row_fault columns row ≡ None → AreCells (r.cells_of columns row)
     → IsGoodRow columns (laid_cells columns (r.cells_of columns row))
 good_row columns row apart none sized =
-    let both = first_none _ (r.cells_fault columns row) none in
-    let alike : (length columns == length row) ≡ true = not-false (length columns == length row) (not_refused _ _ both.0) in
+    let both = plan.first_none _ (r.cells_fault columns row) none in
+    let alike : (length columns == length row) ≡ true = not-false (length columns == length row) (plan.not_refused _ _ both.0) in
     let fit = row_fits columns row apart (grind (arith, alike)) both.1 sized in
     record {
       laid = laid_twice columns (r.cells_of columns row) apart;
@@ -230,7 +216,7 @@ good_rows : (columns : List Column) (given : List (List Cell)) → AllPairs HasO
     → AllByRecursion (RowOf columns) (map (λ cells. Some (laid_cells columns cells)) (map (r.cells_of columns) given))
 good_rows columns [] apart none sized = tt
 good_rows columns (row ∷ given) apart none sized =
-    let both = first_none (r.row_fault columns row) (r.rows_fault columns given) none in
+    let both = plan.first_none (r.row_fault columns row) (r.rows_fault columns given) none in
     (good_row columns row apart both.0 sized.0, good_rows columns given apart both.1 sized.1)
 
 joined : {X : Type 0} (P : X → Type 0) (xs ys : List X) → AllByRecursion P xs → AllByRecursion P ys → AllByRecursion P (xs ++ ys)
@@ -249,10 +235,6 @@ more_weight d rows =
     ∙ sum_by-append row_weight (left d.fresh) (map (laid_cells d.columns) rows)
 
 -- ---- drafts have references of their own
-
-abbrev pub Differ : List Draft → Type 0
-Differ [] = Unit {0}
-Differ (d ∷ ds) = AllByRecursion (λ (e : Draft). is_ref e.at d.at ≡ false) ds × Differ ds
 
 pub record AreGood (most n : ℕ) (ds : List Draft) : Type 0 where
   pub good : AllByRecursion (IsGood most) ds
@@ -275,7 +257,7 @@ alone q (x ∷ ds) d e h = go (q x) refl (λ more. alone q ds d more h.1)
         subst (λ z. AllByRecursion (λ (y : Draft). is_ref y.at z.at ≡ true → y ≡ z) (x ∷ ds)) same ((λ yes_. refl), others ds h.0)
     go false is more =
         let found : find q ds ≡ Some d = rw is at e in
-        let apart : is_ref x.at d.at ≡ false = turned x.at d.at ∙ plan.found-has (λ (y : Draft). is_ref y.at x.at ≡ false) q ds d found h.0 in
+        let apart : is_ref x.at d.at ≡ false = ref_turned x.at d.at ∙ plan.found-has (λ (y : Draft). is_ref y.at x.at ≡ false) q ds d found h.0 in
         ((λ same. absurd (true≢false (sym same ∙ apart))), more found)
 
 by_reference : (q : Draft → Bool) (ds : List Draft) (d : Draft) → find q ds ≡ Some d → Differ ds → find (λ (e : Draft). is_ref e.at d.at) ds ≡ Some d
@@ -286,11 +268,11 @@ by_reference q (x ∷ ds) d e h = go (q x) refl (λ more. by_reference q ds d mo
     go true is more =
         let some : Some x ≡ Some d = rw is at e in
         let same : x ≡ d = cc in
-        let itself : is_ref x.at d.at ≡ true = ap (λ (y : Draft). is_ref y.at d.at) same ∙ same_self d.at in
+        let itself : is_ref x.at d.at ≡ true = ref-is x.at d.at (ap (λ (y : Draft). y.at) same) in
         rw itself some
     go false is more =
         let found : find q ds ≡ Some d = rw is at e in
-        let apart : is_ref x.at d.at ≡ false = turned x.at d.at ∙ plan.found-has (λ (y : Draft). is_ref y.at x.at ≡ false) q ds d found h.0 in
+        let apart : is_ref x.at d.at ≡ false = ref_turned x.at d.at ∙ plan.found-has (λ (y : Draft). is_ref y.at x.at ≡ false) q ds d found h.0 in
         rw apart (more found)
 
 -- ---- one change

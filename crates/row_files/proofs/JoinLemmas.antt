@@ -16,6 +16,8 @@ use Rattle.lake_model.specs.declared.change.Ref.{Ref}
 use Rattle.lake_model.specs.declared.change.Ref.TheVariants as ref
 use Rattle.lake_model.proofs.ApplyLemmas.{by_table}
 use Rattle.lake_model.proofs.GrowthLemmas.{grows, left_laid, made-tables}
+use Rattle.lake_model.proofs.RefLemmas.{ref-is, ref_turned}
+use Rattle.lake_model.proofs.TableLemmas.{all-joined}
 use Rattle.file_disk.specs.Folder.{Changes, Folder}
 use Rattle.cat_view.specs.Files.{Files}
 use Rattle.cat_view.specs.Named.{NamedTable, NamedVersion, table_of}
@@ -27,7 +29,6 @@ use Rattle.cat_view.specs.Workable.{HasOtherId}
 use Rattle.row_files.specs.Stages.{AddsTables, FreshTable, IsStagedFresh, StagesTables, named_table, named_tables}
 use Rattle.row_files.specs.Staging.{named_file}
 use Rattle.row_files.proofs.GrowthLemmas.{stages_growth}
-use Rattle.row_files.proofs.OwnLemmas.{turned}
 
 -- ---- the tables of a version
 
@@ -129,25 +130,17 @@ made_no_old id n (change.CreateTable schema name columns ∷ own) = go (drops_ta
     go false e more = rw e (refl, more)
 made_no_old id n (c ∷ own) = made_no_old id n own
 
-all_both : (P : FreshTable → Type 0) (ts us : List FreshTable) → AllByRecursion P ts → AllByRecursion P us → AllByRecursion P (ts ++ us)
-all_both P [] us one two = two
-all_both P (t ∷ ts) us one two = (one.0, all_both P ts us one.1 two)
-
 apart_both : (own : List Change) (xs : List NamedTable) (us : List FreshTable) → ((id : ℕ) → AllByRecursion (IsApartFrom (ref.Old id)) us) → Apart (map (fresh_of_old own) xs) → Apart us
     → Apart (map (fresh_of_old own) xs ++ us)
 apart_both own [] us none one two = two
 apart_both own (x ∷ xs) us none one two =
-    (all_both (IsApartFrom (ref.Old x.id)) (map (fresh_of_old own) xs) us one.0 (none x.id), apart_both own xs us none one.1 two)
+    (all-joined (IsApartFrom (ref.Old x.id)) (map (fresh_of_old own) xs) us one.0 (none x.id), apart_both own xs us none one.1 two)
 
 pub left_apart : (v : NamedVersion) (own : List Change) → AllPairs HasOtherId v.tables → Apart (tables_left v own)
 left_apart v own ids =
     apart_both own (filter (λ (x : NamedTable). not (drops_table own (ref.Old x.id))) v.tables) (map fresh_of (made_tables 0 own)) (λ id. made_no_old id 0 own) (olds_apart own v.tables ids) (mades_apart 0 own)
 
 -- ---- what is staged for each of them
-
-pub same_self : (at : Ref) → is_ref at at ≡ true
-same_self (ref.Old id) = search arith
-same_self (ref.New place) = search arith
 
 no_rows : (rows : List Cells) → is_some_row rows ≡ false → rows ≡ []
 no_rows [] none = refl
@@ -187,7 +180,7 @@ module _ {F : Type 0} (name : F → List ℕ) (size : F → ℕ) (bytes : F → 
       → AllByRecursion (λ u. IsFor u (staged_for (named_tables name size xs) u.table)) us → AllByRecursion (λ u. IsFor u (staged_for (named_tables name size (x ∷ xs)) u.table)) us
   others_for t x xs same [] apart all = tt
   others_for t x xs same (u ∷ us) apart all =
-      (subst (IsFor u) (sym (other_for x xs u.table (ap (λ a. is_ref a u.table) same ∙ turned t.table u.table ∙ apart.0))) all.0, others_for t x xs same us apart.1 all.1)
+      (subst (IsFor u) (sym (other_for x xs u.table (ap (λ a. is_ref a u.table) same ∙ ref_turned t.table u.table ∙ apart.0))) all.0, others_for t x xs same us apart.1 all.1)
 
   pub all_for : (ts : List FreshTable) (xs : List (StagedTable F)) → Apart ts → AreStaged ts xs → AllByRecursion (λ t. IsFor t (staged_for (named_tables name size xs) t.table)) ts
   all_for [] xs apart all = tt
@@ -204,7 +197,7 @@ module _ {F : Type 0} (name : F → List ℕ) (size : F → ℕ) (bytes : F → 
       go true e more (x ∷ xs) all =
           let both : IsStagedFresh name size bytes images folder t x × AreStaged ts xs = rw e at all in
           let s = both.0 in
-          let found : staged_for (named_tables name size (x ∷ xs)) t.table ≡ named_table name size x = rw (ap (λ a. is_ref a t.table) (same_table t x s) ∙ same_self t.table) refl in
+          let found : staged_for (named_tables name size (x ∷ xs)) t.table ≡ named_table name size x = rw (ref-is x.table t.table (same_table t x s)) refl in
           (record { file = Some (named_file name size s.file); is = found ∙ s.whole; holds = s.holds }, others_for t x xs (same_table t x s) ts apart.0 (more xs both.1))
 
   -- ---- that what is staged names each of them once
@@ -231,7 +224,7 @@ module _ {F : Type 0} (name : F → List ℕ) (size : F → ℕ) (bytes : F → 
       go true e more [] all = absurd (let none : ⊥ = rw e at all in none)
       go true e more (x ∷ xs) all =
           let both : IsStagedFresh name size bytes images folder t x × AreStaged ts xs = rw e at all in
-          let here : is_ref t.table x.table ≡ true = ap (is_ref t.table) (same_table t x both.0) ∙ same_self t.table in
+          let here : is_ref t.table x.table ≡ true = ref-is t.table x.table (sym (same_table t x both.0)) in
           (ap (λ b. b || list_any (λ (u : FreshTable). is_ref u.table x.table) ts) here, known_more t ts (named_tables name size xs) (more xs both.1))
 
   none_any : (at : Ref) (ts : List FreshTable) (xs : List (StagedTable F)) → AllByRecursion (IsApartFrom at) ts → AreStaged ts xs

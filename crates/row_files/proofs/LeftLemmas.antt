@@ -21,10 +21,10 @@ same_twice None (Some b) c one two = absurd one
 same_twice None None (Some c) one two = two
 
 module _ (own mid_own : ℕ) (old mid : Folder) (same : Same old mid) (part : mid_own ≡ own) (of : ℕ) (name : List ℕ) where
-  was_gone : IsGone mid_own mid of name → IsGone own old of name
+  pub was_gone : IsGone mid_own mid of name → IsGone own old of name
   was_gone gone = (gone.0 ∙ part, sym (same name) ∙ gone.1)
 
-  was_wrong : (P : List ℕ → Type 0) (held : Option (List ℕ)) → IfSome held (λ b. IsGone mid_own mid of name ⊎ P b) → IfSome held (λ b. IsGone own old of name ⊎ P b)
+  pub was_wrong : (P : List ℕ → Type 0) (held : Option (List ℕ)) → IfSome held (λ b. IsGone mid_own mid of name ⊎ P b) → IfSome held (λ b. IsGone own old of name ⊎ P b)
   was_wrong P None wrong = tt
   was_wrong P (Some b) (inl gone) = inl (was_gone gone)
   was_wrong P (Some b) (inr bad) = inr bad

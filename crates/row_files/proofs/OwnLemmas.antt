@@ -1,6 +1,5 @@
 -- What is kept of each table while a list's changes are gone over.
 use Rattle.std.proofs.Common.{◌≡◌, ◌+◌, ◌<◌, ◌≤◌, ◌||◌, ℕ, Bool, true, false, cond, List, [], ◌∷◌, ◌++◌, append_assoc, append-nil, length, drop, drop-cons, get_or, suc, Option, Some, None, refl, sym, ap, ap₂, subst, ◌∙◌, arith, if◌then◌else◌}
-use Rattle.std.proofs.lemmas.Bool.{eqb-true}
 use Rattle.std.proofs.lemmas.List.{drop_all}
 use Rattle.lake_model.specs.Apply.{is_ref}
 use Rattle.lake_model.specs.Kinds.{drops_table, is_drop_of_table}
@@ -10,22 +9,11 @@ use Rattle.lake_model.specs.declared.change.Ref.TheVariants as ref
 use Rattle.indexmap.specs.IndexMap.{IndexMap, get}
 use Rattle.std.specs.Map.{lookup}
 use Rattle.lake_model.specs.contracts.change.RefPartialEq.TheImpl.{eq-value}
+use Rattle.lake_model.proofs.RefLemmas.{ref-same, ref_turned}
 use Rattle.row_files.specs.Own.{ComesTo, Continues, IsEarlier, creates_table, inserts_into, inserts_of, is_dropped, next_table, places_from}
 use Rattle.row_files.specs.declared.own.OwnTable.{OwnTable}
 
 -- ---- one table
-
-same_ref : (a b : Ref) → is_ref a b ≡ true → a ≡ b
-same_ref (ref.Old a) (ref.Old b) is = ap ref.Old (eqb-true a b is)
-same_ref (ref.New a) (ref.New b) is = ap ref.New (eqb-true a b is)
-same_ref (ref.Old a) (ref.New b) is = absurd cc
-same_ref (ref.New a) (ref.Old b) is = absurd cc
-
-pub turned : (a b : Ref) → is_ref a b ≡ is_ref b a
-turned (ref.Old a) (ref.Old b) = search arith
-turned (ref.New a) (ref.New b) = search arith
-turned (ref.Old a) (ref.New b) = refl
-turned (ref.New a) (ref.Old b) = refl
 
 -- what a map's `==` of references is
 meets : (a b : Ref) → eq-value.it a b ≡ is_ref a b
@@ -60,24 +48,24 @@ module _ (old mid new : Ref → Option OwnTable) (at : Ref) (table : OwnTable) (
     where
       go : (b : Bool) → is_ref at q ≡ b → inserts_of (new q) ≡ inserts_of (old q) ++ (if is_ref q at then more else [])
       go true e =
-          ap inserts_of (put q ∙ ap (λ b. cond b (Some table) (mid q)) e) ∙ has ∙ ap (λ a. inserts_of (old a) ++ more) (same_ref at q e)
-          ∙ sym (ap (λ b. inserts_of (old q) ++ cond b more []) (turned q at ∙ e))
+          ap inserts_of (put q ∙ ap (λ b. cond b (Some table) (mid q)) e) ∙ has ∙ ap (λ a. inserts_of (old a) ++ more) (ref-same at q e)
+          ∙ sym (ap (λ b. inserts_of (old q) ++ cond b more []) (ref_turned q at ∙ e))
       go false e =
           ap inserts_of (put q ∙ ap (λ b. cond b (Some table) (mid q)) e ∙ rest q e)
-          ∙ sym (ap (λ b. inserts_of (old q) ++ cond b more []) (turned q at ∙ e) ∙ append-nil (inserts_of (old q)))
+          ∙ sym (ap (λ b. inserts_of (old q) ++ cond b more []) (ref_turned q at ∙ e) ∙ append-nil (inserts_of (old q)))
 
   pub same_inserts : table.inserts.items ≡ inserts_of (old at) → (q : Ref) → inserts_of (new q) ≡ inserts_of (old q)
   same_inserts has q = go (is_ref at q) refl
     where
       go : (b : Bool) → is_ref at q ≡ b → inserts_of (new q) ≡ inserts_of (old q)
-      go true e = ap inserts_of (put q ∙ ap (λ b. cond b (Some table) (mid q)) e) ∙ has ∙ ap (λ a. inserts_of (old a)) (same_ref at q e)
+      go true e = ap inserts_of (put q ∙ ap (λ b. cond b (Some table) (mid q)) e) ∙ has ∙ ap (λ a. inserts_of (old a)) (ref-same at q e)
       go false e = ap inserts_of (put q ∙ ap (λ b. cond b (Some table) (mid q)) e ∙ rest q e)
 
   pub same_dropped : table.is_dropped ≡ is_dropped (old at) → (q : Ref) → is_dropped (new q) ≡ is_dropped (old q)
   same_dropped has q = go (is_ref at q) refl
     where
       go : (b : Bool) → is_ref at q ≡ b → is_dropped (new q) ≡ is_dropped (old q)
-      go true e = ap is_dropped (put q ∙ ap (λ b. cond b (Some table) (mid q)) e) ∙ has ∙ ap (λ a. is_dropped (old a)) (same_ref at q e)
+      go true e = ap is_dropped (put q ∙ ap (λ b. cond b (Some table) (mid q)) e) ∙ has ∙ ap (λ a. is_dropped (old a)) (ref-same at q e)
       go false e = ap is_dropped (put q ∙ ap (λ b. cond b (Some table) (mid q)) e ∙ rest q e)
 
   pub set_dropped : table.is_dropped ≡ true → (q : Ref) → is_dropped (new q) ≡ (is_dropped (old q) || is_ref q at)
@@ -86,10 +74,10 @@ module _ (old mid new : Ref → Option OwnTable) (at : Ref) (table : OwnTable) (
       go : (b : Bool) → is_ref at q ≡ b → is_dropped (new q) ≡ (is_dropped (old q) || is_ref q at)
       go true e =
           ap is_dropped (put q ∙ ap (λ b. cond b (Some table) (mid q)) e) ∙ has
-          ∙ sym (ap (λ b. is_dropped (old q) || b) (turned q at ∙ e) ∙ or_true (is_dropped (old q)))
+          ∙ sym (ap (λ b. is_dropped (old q) || b) (ref_turned q at ∙ e) ∙ or_true (is_dropped (old q)))
       go false e =
           ap is_dropped (put q ∙ ap (λ b. cond b (Some table) (mid q)) e ∙ rest q e)
-          ∙ sym (ap (λ b. is_dropped (old q) || b) (turned q at ∙ e) ∙ or_false (is_dropped (old q)))
+          ∙ sym (ap (λ b. is_dropped (old q) || b) (ref_turned q at ∙ e) ∙ or_false (is_dropped (old q)))
 
 -- ---- one more change
 

@@ -12,6 +12,7 @@ use Rattle.lake_types.specs.declared.value.Column.{Column}
 use Rattle.lake_types.specs.declared.value.Row.{Row}
 use Rattle.lake_types.specs.declared.value.Value.{Value}
 use Rattle.lake_model.specs.Apply.{Cells, numbered}
+use Rattle.lake_model.proofs.IdLemmas.{length-numbered}
 use Rattle.field_map.specs.Laid.{column_of, first_fault}
 use Rattle.pq_file.specs.Sheets.{IsSound}
 use Rattle.sheet_rows.specs.Live as live
@@ -36,10 +37,6 @@ when false x y e = none_is y e
 as_long : (rows : List Row) (o : Option (List Row)) → o ≡ Some rows → length rows ≡ length (unwrap_or o [])
 as_long rows o e = ap (λ (x : Option (List Row)). length (unwrap_or x [])) (sym e)
 
-numbered_length : (first : ℕ) (all : List Cells) → length (numbered first all) ≡ length all
-numbered_length first [] = refl
-numbered_length first (cells ∷ all) = ap suc (numbered_length (first + 1) all)
-
 one_more : (cells : Cells) (count : ℕ) (rows : List Row) (id : Option ℕ) (more : Option (List Row)) → ((m : List Row) → more ≡ Some m → length m ≡ count)
     → option_and_then (λ id. option_map (λ m. with_id id cells ∷ m) more) id ≡ Some rows → length rows ≡ suc count
 one_more cells count rows None more all e = none_is rows e
@@ -58,7 +55,7 @@ by_ids (Some c) all rows e = ids_length c.cells 0 all rows (when (live.is_intege
 laid_length : (first : Option ℕ) (columns : List Column) (sheet : Sheet) (rows : List Row) → laid_rows first columns sheet ≡ Some rows
     → length rows ≡ length (map (laid_cells columns) (cells_of sheet))
 laid_length (Some first) columns sheet rows e =
-    as_long rows (Some (numbered first (map (laid_cells columns) (cells_of sheet)))) e ∙ numbered_length first (map (laid_cells columns) (cells_of sheet))
+    as_long rows (Some (numbered first (map (laid_cells columns) (cells_of sheet)))) e ∙ length-numbered first (map (laid_cells columns) (cells_of sheet))
 laid_length None columns sheet rows e = by_ids (column_of sheet.columns MAX_FIELD) (map (laid_cells columns) (cells_of sheet)) rows e
 
 pub row_count : (stated : Stated) (columns : List Column) (sheet : Sheet) (rows : List Row) → live_of stated columns sheet ≡ Some rows → length rows ≡ stated.rows

@@ -1,20 +1,23 @@
 -- Tables that are staged one after the other.
-use Rattle.std.proofs.Common.{◌≡◌, ◌≢◌, ◌<◌, ◌≤◌, ◌^◌, ◌+◌, ◌++◌, ℕ, false, All, get_or, length, take, arith, List, [], ◌∷◌, map, append_assoc, Option, Some, None, IfNone, IfSome, IsSome, OnOk, Result, Ok, Err, option_and_then, option_map, inl, inr, refl, sym, ap, ap₂, subst, ◌∙◌, ◌⊎◌}
+use Rattle.std.proofs.Common.{◌≡◌, ◌≢◌, ◌<◌, ◌≤◌, ◌^◌, ◌+◌, ◌++◌, ℕ, false, All, get_or, length, take, arith, List, [], ◌∷◌, map, append_assoc, Option, Some, None, IfErr, IfNone, IfSome, IsSome, OnOk, Result, Ok, Err, option_and_then, option_map, inl, inr, refl, sym, ap, ap₂, subst, ◌∙◌, ◌⊎◌}
 use Rattle.std.specs.List.{AllByRecursion, AllZip, cons_option}
 use Rattle.std.proofs.lemmas.List.{append-nil, get_or-map, length-map, map-append, take_all, take_more}
 use Rattle.lake_io.specs.Told.{Takes}
 use Rattle.lake_types.specs.declared.value.Column.{Column}
 use Rattle.lake_model.specs.Apply.{Cells}
+use Rattle.lake_model.proofs.TableLemmas.{all-joined}
 use Rattle.file_disk.specs.Folder.{Changes, Folder, MayBecomeAny, Same, SameBut, StaysIfThere, Touches}
 use Rattle.new_files.specs.Drawing.{Drew}
 use Rattle.new_files.specs.Names.{name_of}
+use Rattle.new_files.specs.declared.fault.NewFileNo.{NewFileNo}
+use Rattle.new_files.specs.declared.fault.NewFileNo.TheVariants as new_file_no
 use Rattle.cat_view.specs.Files.{Filed}
 use Rattle.cat_view.specs.Staged.{HoldsCells, NamedStagedFile}
 use Rattle.cat_view.specs.Typed.{HoldsTyped}
 use Rattle.cat_view.specs.declared.staged.StagedFile.{StagedFile}
 use Rattle.cat_view.specs.declared.staged.StagedTable.{StagedTable}
 use Rattle.row_files.specs.Folders.{filed, files_of}
-use Rattle.row_files.specs.Stages.{AddsFresh, AddsTables, CanBeStaged, DrewThese, EndsAtTaken, FreshTable, IfTakenBy, IsOther, IsStagedFresh, SameButThese, StagesMore, StagesTables, Stays, TouchesThese, WroteThese, fresh_names, named_table, only_fresh}
+use Rattle.row_files.specs.Stages.{AddsFresh, AddsTables, CanBeStaged, DrewThese, EndsAtTaken, FreshTable, IfTakenBy, IsOther, IsStagedFresh, SameButThese, StagesMore, StagesTables, Stays, TouchesThese, WroteThese, fresh_names, named_table, only_fresh, refusal}
 use Rattle.row_files.specs.Staging.{AddsRows, WroteNone, WroteOne, named_file}
 use Rattle.row_files.specs.declared.fault.StageNo.{StageNo}
 use Rattle.row_files.specs.declared.fault.StageNo.TheVariants as stage_no
@@ -35,10 +38,6 @@ takes_none (Some a) None same = tt
 takes_none (Some a) (Some b) same = (let is : b ≡ a = cc in is) ∙ sym (append-nil a)
 takes_none None (Some b) same = absurd (cc)
 
-all_both : {X : Type 0} (P : X → Type 0) (xs ys : List X) → AllByRecursion P xs → AllByRecursion P ys → AllByRecursion P (xs ++ ys)
-all_both P [] ys one two = two
-all_both P (x ∷ xs) ys one two = (one.0, all_both P xs ys one.1 two)
-
 all_first : {X : Type 0} (P : X → Type 0) (xs ys : List X) → AllByRecursion P (xs ++ ys) → AllByRecursion P xs
 all_first P [] ys all = tt
 all_first P (x ∷ xs) ys all = (all.0, all_first P xs ys all.1)
@@ -50,7 +49,7 @@ all_last P (x ∷ xs) ys all = all_last P xs ys all.1
 drew_both : (a b c : Option (List ℕ)) (names more : List (List ℕ)) → DrewThese a b names → DrewThese b c more → DrewThese a c (names ++ more)
 drew_both a b c names more one two = record {
   numbers = one.numbers ++ two.numbers;
-  small = all_both (λ number. number < 2 ^ 128) one.numbers two.numbers one.small two.small;
+  small = all-joined (λ number. number < 2 ^ 128) one.numbers two.numbers one.small two.small;
   drawn = takes_both a b c one.numbers two.numbers one.drawn two.drawn;
   spell = ap₂ (λ x y. x ++ y) one.spell two.spell ∙ sym (map-append (λ number. name_of number false) one.numbers two.numbers);
 }
@@ -214,7 +213,7 @@ module _ {F : Type 0} (name : F → List ℕ) (size : F → ℕ) (bytes : F → 
       → Changes (AddsTables name size bytes ts xs j) f g → Changes (AddsTables name size bytes us ys k) g h → Changes (AddsTables name size bytes (ts ++ us) (xs ++ ys) k) f h
   adds_both ts us xs ys j k touches (Some f) (Some g) (Some h) one two = record {
     absent = subst (AllByRecursion (λ n. f n ≡ None)) (sym (names_both xs ys))
-        (all_both (λ n. f n ≡ None) (fresh_names name xs) (fresh_names name ys) one.absent (absent_before f g j ts xs one (fresh_names name ys) two.absent));
+        (all-joined (λ n. f n ≡ None) (fresh_names name xs) (fresh_names name ys) one.absent (absent_before f g j ts xs one (fresh_names name ys) two.absent));
     holds = zip_both (IsStagedFresh name size bytes k h) ts us xs ys (all_kept g h j k (fresh_names name ys) two.absent two.others touches ts xs one.holds) two.holds;
     others = subst (λ names. SameButThese names f h) (sym (names_both xs ys)) (same_both (fresh_names name xs) (fresh_names name ys) f g h one.others two.others);
   }
@@ -320,7 +319,17 @@ ends_taken a b f g name drew there same = record {
     all_stay (Some f) None same = same
     all_stay None (Some g) same = same
 
-pub ruleset adding = (wrote_at_most, ends_taken)
+-- no answer is that a file is damaged
+pub no_damage : (why : NewFileNo) (no : StageNo) → no ≡ refusal why → (name : List ℕ) → no ≢ stage_no.Damaged name
+no_damage new_file_no.DiskFault no is name e = absurd (let h : stage_no.DiskFault ≡ stage_no.Damaged name = sym is ∙ e in cc)
+no_damage (new_file_no.Taken there) no is name e = absurd (let h : stage_no.Taken there ≡ stage_no.Damaged name = sym is ∙ e in cc)
+no_damage new_file_no.Memory no is name e = absurd (let h : stage_no.Memory ≡ stage_no.Damaged name = sym is ∙ e in cc)
+
+pub no_damage_added : {T : Type 0} (result : Result T StageNo) → IfErr result (λ why. why ≡ stage_no.Memory) → IfErr result (λ why. (name : List ℕ) → why ≢ stage_no.Damaged name)
+no_damage_added (Ok x) memory = tt
+no_damage_added (Err why) memory = no_damage new_file_no.Memory why memory
+
+pub ruleset adding = (wrote_at_most, ends_taken, no_damage, no_damage_added)
 
 -- ---- after tables that were staged
 
@@ -338,10 +347,19 @@ still_there None p stays there = absurd (let h : IsSome {T = List ℕ} None = th
 still_there (Some v) p (inl none) there = absurd cc
 still_there (Some v) p (inr same) there = subst (λ q. IsSome q) (sym same) there
 
+-- what stays twice stays
 stays_both : (o p q : Option (List ℕ)) → StaysIfThere o p → StaysIfThere p q → StaysIfThere o q
 stays_both o p q (inl none) two = inl none
 stays_both o p q (inr same) (inl none) = inl (sym same ∙ none)
 stays_both o p q (inr same) (inr again) = inr (again ∙ same)
+
+stays_twice : (f g h : Option Folder) → Changes Stays f g → Changes Stays g h → Changes Stays f h
+stays_twice (Some f) (Some g) (Some h) one two = λ n. stays_both (f n) (g n) (h n) (one n) (two n)
+stays_twice None None None one two = tt
+stays_twice (Some f) (Some g) None one two = two
+stays_twice (Some f) None h one two = absurd one
+stays_twice None (Some g) h one two = absurd one
+stays_twice None None (Some h) one two = two
 
 module _ {F : Type 0} (name : F → List ℕ) (size : F → ℕ) (bytes : F → Option (List ℕ)) (ts : List FreshTable) (a b : Option (List ℕ)) (f g : Option Folder) (i j : Folder → Type 0)
     (xs : List (StagedTable F)) (done : StagesTables name size bytes ts a b f g i j xs) where
@@ -372,12 +390,25 @@ module _ {F : Type 0} (name : F → List ℕ) (size : F → ℕ) (bytes : F → 
       go None e = inl e
       go (Some v) e = inr (adds.others n (others_than name size bytes f n (fresh_names name xs) (λ none. absurd (let h : None ≡ Some v = sym none ∙ e in cc)) adds.absent))
 
+  all_stay : (f g : Option Folder) → Changes (AddsTables name size bytes ts xs j) f g → Changes Stays f g
+  all_stay (Some f) (Some g) adds = kept_or_none f g adds
+  all_stay None None adds = tt
+  all_stay (Some f) None adds = adds
+  all_stay None (Some g) adds = adds
+
+  -- what was there before them stays
+  pub stay_before : Changes Stays f g
+  stay_before = all_stay f g done.files
+
+  pub stay_after : (h : Option Folder) → Changes Stays g h → Changes Stays f h
+  stay_after h next = stays_twice f g h stay_before next
+
   pub taken_after : (c : Option (List ℕ)) (h : Option Folder) (made : List ℕ) → EndsAtTaken b c g h made → EndsAtTaken a c f h made
   taken_after c h made next = record {
     earlier = fresh_names name xs ++ next.earlier;
     drew = subst (DrewThese a c) (sym (append_assoc (fresh_names name xs) next.earlier (made ∷ []))) (drew_both a b c (fresh_names name xs) (next.earlier ++ made ∷ []) done.drew next.drew);
     there = all_there f g h done.files next.stays next.there;
-    stays = both_stay f g h done.files next.stays;
+    stays = stay_after h next.stays;
   }
     where
       still : (g h : Folder) → Stays g h → (ns : List (List ℕ)) → AllByRecursion (λ n. IsSome (g n)) ns → AllByRecursion (λ n. IsSome (h n)) ns
@@ -390,18 +421,9 @@ module _ {F : Type 0} (name : F → List ℕ) (size : F → ℕ) (bytes : F → 
       all_there f g None adds stays there = tt
       all_there (Some f) (Some g) (Some h) adds stays there =
           subst (AllByRecursion (λ n. IsSome (h n))) (sym (append_assoc (fresh_names name xs) next.earlier (made ∷ [])))
-          (all_both (λ n. IsSome (h n)) (fresh_names name xs) (next.earlier ++ made ∷ []) (still g h stays (fresh_names name xs) (names_there g ts xs adds.holds)) there)
+          (all-joined (λ n. IsSome (h n)) (fresh_names name xs) (next.earlier ++ made ∷ []) (still g h stays (fresh_names name xs) (names_there g ts xs adds.holds)) there)
       all_there None (Some g) (Some h) adds stays there = absurd adds
       all_there f None (Some h) adds stays there = absurd stays
-
-      both_stay : (f g h : Option Folder) → Changes (AddsTables name size bytes ts xs j) f g → Changes Stays g h → Changes Stays f h
-      both_stay (Some f) (Some g) (Some h) adds stays =
-          λ n. stays_both (f n) (g n) (h n) (kept_or_none f g adds n) (stays n)
-      both_stay None None None adds stays = tt
-      both_stay (Some f) (Some g) None adds stays = absurd stays
-      both_stay (Some f) None h adds stays = absurd adds
-      both_stay None (Some g) h adds stays = absurd adds
-      both_stay None None (Some h) adds stays = absurd stays
 
 -- one more job
 pub next_job : {F : Type 0} (name : F → List ℕ) (size : F → ℕ) (bytes : F → Option (List ℕ)) (fresh : Job → FreshTable) (jobs : List Job) (at : ℕ) (job : Job) (t : FreshTable)
@@ -430,4 +452,4 @@ taken_more stage_no.DiskFault P Q more h = tt
 taken_more (stage_no.Damaged n) P Q more h = tt
 taken_more stage_no.Memory P Q more h = tt
 
-pub ruleset several = (wrote_after, untold_after, taken_after, stages_none, stages_wrote)
+pub ruleset several = (wrote_after, untold_after, taken_after, stay_before, stay_after, stages_none, stages_wrote)

@@ -5,8 +5,9 @@ use Rattle.lake_io.specs.Told.{Takes}
 use Rattle.lake_types.specs.declared.value.Column.{Column}
 use Rattle.lake_model.specs.Apply.{Cells}
 use Rattle.lake_model.specs.declared.change.Ref.{Ref}
-use Rattle.file_disk.specs.Folder.{Changes, Folder, StaysIfThere}
+use Rattle.file_disk.specs.Folder.{Changes, Folder}
 use Rattle.new_files.specs.Names.{name_of}
+pub use Rattle.new_files.specs.Writing.{Stays}
 use Rattle.new_files.specs.declared.fault.NewFileNo.{NewFileNo}
 use Rattle.new_files.specs.declared.fault.NewFileNo.TheVariants as new_file_no
 use Rattle.cat_view.specs.Staged.{HoldsCells, NamedStagedFile, NamedStagedTable, nothing_for}
@@ -99,10 +100,6 @@ pub record WroteThese (before now : Option (List ℕ)) (old new : Option Folder)
   pub drew : DrewThese before now names
   pub files : Changes (SameButThese names) old new
   pub images : TouchesThese names could can
-
--- what was there stays
-abbrev pub Stays : Folder → Folder → Type 0
-Stays old new = (name : List ℕ) → StaysIfThere (old name) (new name)
 
 -- The name is that of the last number that was drawn. It is there, and so are the names of those before it, which spell
 -- files that were written.

@@ -4,6 +4,7 @@ ghost use Rattle.lake_io.specs.Causes.{Rose};
 ghost use Rattle.lake_types.specs.Texts.{HoldsBytes};
 ghost use Rattle.file_disk.specs.Folder.{Changes, MayBecomeAny, Same, Touches};
 ghost use Rattle.new_files.specs.Drawing.{Drew, IfTaken};
+ghost use Rattle.new_files.specs.Writing.{Stays};
 ghost use Rattle.new_files.specs.declared.fault.NewFileNo.TheVariants as new_file_no;
 ghost use Rattle.sheet_rows.specs.Sheets as sheets;
 ghost use Rattle.row_files.specs.Folders.{sheet_in};
@@ -193,7 +194,7 @@ pub fn stage_rows<D: FileDisk, N: Names>(
     ensures exists { IfTaken result (λ name. IfSome (D.files disk.old) (λ old. IsSome (old name))) }
     ensures exists_untold { IfTaken result (λ _.
         IfNone (D.files disk.old) (Rose (D.faults disk.old) (D.faults disk.new))) }
-    ensures stays { IfTaken result (λ _. Changes Same (D.files disk.old) (D.files disk.new)) }
+    ensures unchanged { IfTaken result (λ _. Changes Same (D.files disk.old) (D.files disk.new)) }
 
     ensures cause { IsErrOf result new_file_no.DiskFault → Rose (D.faults disk.old) (D.faults disk.new) }
     ensures later { D.faults disk.old ≤ D.faults disk.new }
@@ -203,6 +204,7 @@ pub fn stage_rows<D: FileDisk, N: Names>(
         (D.images disk.old) (D.images disk.new)
         ⊎ WroteOne (N.drawn names.old) (N.drawn names.new) (D.files disk.old) (D.files disk.new)
         (D.images disk.old) (D.images disk.new) }
+    ensures stays { Changes Stays (D.files disk.old) (D.files disk.new) }
     ensures opens { D.opens disk.new ≡ D.opens disk.old }
     ensures part { D.part disk.new ≡ D.part disk.old }
 {

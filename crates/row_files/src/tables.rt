@@ -1,6 +1,7 @@
-ghost use Rattle.std.specs.Prelude.{◌≡◌, ◌≤◌, ◌∷◌, [], ℕ, List, map, None, Option, Some, All, IfErr, IfNone, IfOk, IfSome, OnOk, IsErrOf};
+ghost use Rattle.std.specs.Prelude.{◌≡◌, ◌≢◌, ◌≤◌, ◌∷◌, [], ℕ, List, map, None, Option, Some, All, IfErr, IfNone, IfOk, IfSome, OnOk, IsErrOf};
 ghost use Rattle.std.specs.List.{AllByRecursion};
 ghost use Rattle.lake_io.specs.Causes.{Rose};
+ghost use Rattle.file_disk.specs.Folder.{Changes};
 ghost use Rattle.indexmap.specs.IndexMap.{get};
 ghost use Rattle.lake_model.specs.Apply.{is_ref};
 ghost use Rattle.lake_model.specs.Fits.{Fits};
@@ -95,12 +96,14 @@ fn stage_table<D: FileDisk, N: Names>(
         (D.files disk.old) (D.files disk.new)) }
     ensures taken_untold { spec.IfTakenName result (λ _.
         IfNone (D.files disk.old) (Rose (D.faults disk.old) (D.faults disk.new))) }
+    ensures whole { IfErr result (λ why. (name : List ℕ) → why ≢ stage_no.Damaged name) }
     ensures cause { IsErrOf result stage_no.DiskFault → Rose (D.faults disk.old) (D.faults disk.new) }
     ensures later { D.faults disk.old ≤ D.faults disk.new }
 
     // On every answer.
     ensures wrote { spec.WroteThese (N.drawn names.old) (N.drawn names.new) (D.files disk.old) (D.files disk.new)
         (D.images disk.old) (D.images disk.new) }
+    ensures stays { Changes spec.Stays (D.files disk.old) (D.files disk.new) }
     ensures opens { D.opens disk.new ≡ D.opens disk.old }
     ensures part { D.part disk.new ≡ D.part disk.old }
 {
@@ -162,12 +165,14 @@ fn stage_jobs<D: FileDisk, N: Names>(
         (D.files disk.old) (D.files disk.new)) }
     ensures taken_untold { spec.IfTakenName result (λ _.
         IfNone (D.files disk.old) (Rose (D.faults disk.old) (D.faults disk.new))) }
+    ensures whole { IfErr result (λ why. (name : List ℕ) → why ≢ stage_no.Damaged name) }
     ensures cause { IsErrOf result stage_no.DiskFault → Rose (D.faults disk.old) (D.faults disk.new) }
     ensures later { D.faults disk.old ≤ D.faults disk.new }
 
     // On every answer.
     ensures wrote { spec.WroteThese (N.drawn names.old) (N.drawn names.new) (D.files disk.old) (D.files disk.new)
         (D.images disk.old) (D.images disk.new) }
+    ensures stays { Changes spec.Stays (D.files disk.old) (D.files disk.new) }
     ensures opens { D.opens disk.new ≡ D.opens disk.old }
     ensures part { D.part disk.new ≡ D.part disk.old }
 {
@@ -197,8 +202,8 @@ fn stage_jobs<D: FileDisk, N: Names>(
 /// the list, or that has no fresh rows, stages nothing.
 ///
 /// The own list only creates, drops and inserts, and may stand on the view. `Taken` tells the name of the last number
-/// that was drawn. After a refusal the files that were made before stay, under names that nothing tells, and a part of
-/// one more may lie there.
+/// that was drawn, and no answer is `Damaged`. After a refusal the files that were made before stay, under names that
+/// nothing tells, and a part of one more may lie there. What was there before stays on every answer.
 pub fn stage<D: FileDisk, N: Names>(
     alloc: Global,
     disk: &mut D,
@@ -227,12 +232,14 @@ pub fn stage<D: FileDisk, N: Names>(
         (D.files disk.old) (D.files disk.new)) }
     ensures taken_untold { spec.IfTakenName result (λ _.
         IfNone (D.files disk.old) (Rose (D.faults disk.old) (D.faults disk.new))) }
+    ensures whole { IfErr result (λ why. (name : List ℕ) → why ≢ stage_no.Damaged name) }
     ensures cause { IsErrOf result stage_no.DiskFault → Rose (D.faults disk.old) (D.faults disk.new) }
     ensures later { D.faults disk.old ≤ D.faults disk.new }
 
     // On every answer.
     ensures wrote { spec.WroteThese (N.drawn names.old) (N.drawn names.new) (D.files disk.old) (D.files disk.new)
         (D.images disk.old) (D.images disk.new) }
+    ensures stays { Changes spec.Stays (D.files disk.old) (D.files disk.new) }
     ensures opens { D.opens disk.new ≡ D.opens disk.old }
     ensures part { D.part disk.new ≡ D.part disk.old }
 {

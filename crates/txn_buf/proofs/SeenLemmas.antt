@@ -8,6 +8,7 @@ use Rattle.lake_model.specs.Plans.{columns_from}
 use Rattle.lake_model.specs.declared.change.Change.TheVariants as change
 use Rattle.lake_model.specs.declared.change.Ref.{Ref}
 use Rattle.lake_model.specs.declared.change.Ref.TheVariants as ref
+use Rattle.lake_model.proofs.CreationLemmas.{filter-mapped}
 use Rattle.lake_model.proofs.PlanLemmas.{columns-length, fields-are}
 use Rattle.txn_buf.specs.Drafts.{bare, bare_draft, created_table, schema_draft, table_draft, table_drafts, work_of}
 use Rattle.txn_buf.specs.declared.seen.Seen.{Seen}
@@ -25,26 +26,18 @@ schema_created old new name schemas tables count same =
     ap (map schema_draft) schemas ∙ map-append schema_draft old.schemas.items (record { at = ref.New old.created_schemas; name = name } ∷ []) in
     rw (more, tables, count, same, drafts-bare old.tables.items) refl
 
-map-filter : {X Y : Type 0} (f : X → Y) (p : Y → Bool) (xs : List X) → map f (filter (λ x. p (f x)) xs) ≡ filter p (map f xs)
-map-filter f p [] = refl
-map-filter f p (x ∷ xs) = go (p (f x)) refl (map-filter f p xs)
-  where
-    go : (b : Bool) → p (f x) ≡ b → map f (filter (λ x. p (f x)) xs) ≡ filter p (map f xs) → map f (filter (λ x. p (f x)) (x ∷ xs)) ≡ filter p (map f (x ∷ xs))
-    go true e more = rw e (ap (λ ys. f x ∷ ys) more)
-    go false e more = rw e more
-
 pub schema-removed : (old new : Seen) (at : Ref) → new.schemas.items ≡ filter (λ s. not (is_ref s.at at)) old.schemas.items → new.tables.items ≡ old.tables.items
     → new.created_schemas ≡ old.created_schemas → new.created_tables ≡ old.created_tables → work_of new ≡ bare (without_schema (work_of old) at)
 schema-removed old new at schemas tables count same =
     let left : map schema_draft new.schemas.items ≡ filter (λ (s : SchemaDraft). not (is_ref s.at at)) (map schema_draft old.schemas.items) =
-    ap (map schema_draft) schemas ∙ map-filter schema_draft (λ (s : SchemaDraft). not (is_ref s.at at)) old.schemas.items in
+    ap (map schema_draft) schemas ∙ filter-mapped schema_draft (λ (s : SchemaDraft). not (is_ref s.at at)) old.schemas.items in
     rw (left, tables, count, same, drafts-bare old.tables.items) refl
 
 pub table-removed : (old new : Seen) (at : Ref) → new.tables.items ≡ filter (λ t. not (is_ref t.at at)) old.tables.items → new.schemas.items ≡ old.schemas.items
     → new.created_schemas ≡ old.created_schemas → new.created_tables ≡ old.created_tables → work_of new ≡ bare (without_table (work_of old) at)
 table-removed old new at tables schemas count same =
     let bared : map bare_draft (filter (λ (d : Draft). not (is_ref d.at at)) (table_drafts old.tables.items)) ≡ table_drafts new.tables.items =
-    ap (map bare_draft) (sym (map-filter table_draft (λ (d : Draft). not (is_ref d.at at)) old.tables.items)) ∙ ap (λ (ts : List SeenTable). map bare_draft (table_drafts ts)) (sym tables) ∙ drafts-bare new.tables.items in
+    ap (map bare_draft) (sym (filter-mapped table_draft (λ (d : Draft). not (is_ref d.at at)) old.tables.items)) ∙ ap (λ (ts : List SeenTable). map bare_draft (table_drafts ts)) (sym tables) ∙ drafts-bare new.tables.items in
     rw (bared, schemas, count, same) refl
 
 pub table-created : (old new : Seen) (schema : Ref) (name : List ℕ) (defs : List ColumnDef) (kept : SeenTable)

@@ -4,7 +4,7 @@ use Rattle.lake_model.specs.Apply.{is_ref}
 use Rattle.lake_model.specs.declared.change.Ref.TheVariants as ref
 use Rattle.cat_view.specs.Views.{named_tables}
 use Rattle.row_files.specs.Own.{fresh_at, fresh_job}
-use Rattle.row_files.proofs.StageLemmas.{all_jobs, can_job, next_job, stages_nothing, stages_wrote, taken_after, taken_more, wrote_after}
+use Rattle.row_files.proofs.StageLemmas.{all_jobs, can_job, next_job, stages_nothing, stages_wrote, stay_after, stay_before, taken_after, taken_more, wrote_after}
 use Rattle.row_files.proofs.tables.stage_jobs.Goals as goal
 
 pub loop-job-init : goal.loop-job-init
@@ -31,6 +31,9 @@ returns-in-Err-clause-wrote g c =
     let h = g.D.File.Held in
     wrote_after h.name h.size h.bytes _ _ _ _ _ _ _ _ c.loop-job.invariant.staged _ _ _ c.in-Err.ensures.wrote
 
+pub returns-in-Err-clause-stays : goal.returns-in-Err-clause-stays
+returns-in-Err-clause-stays g c = let h = g.D.File.Held in stay_after h.name h.size h.bytes _ _ _ _ _ _ _ _ c.loop-job.invariant.staged _ c.in-Err.ensures.stays
+
 pub loop-job-preserved : goal.loop-job-preserved
 loop-job-preserved g c = let h = g.D.File.Held in record {
   staged = next_job h.name h.size h.bytes (fresh_job (named_tables h.name c.args.tables.now) c.args.own.now (get is_ref c.args.kept.now)) c.args.jobs.now c.loop-job.job-index (record { table = ref.Old 0; place = 0 })
@@ -49,3 +52,6 @@ returns-clause-staged g c =
 
 pub returns-clause-wrote : goal.returns-clause-wrote
 returns-clause-wrote g c = let h = g.D.File.Held in stages_wrote h.name h.size h.bytes _ _ _ _ _ _ _ _ c.loop-job.invariant.staged
+
+pub returns-clause-stays : goal.returns-clause-stays
+returns-clause-stays g c = let h = g.D.File.Held in stay_before h.name h.size h.bytes _ _ _ _ _ _ _ _ c.loop-job.invariant.staged
