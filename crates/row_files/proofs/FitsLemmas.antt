@@ -24,7 +24,7 @@ use Rattle.lake_model.specs.Apply.{Cells, Draft, Work, changed, created, drafted
 use Rattle.lake_model.specs.Fits.{AreCells, Fits, FitsFrom, IsAllowed, IsAtMost, IsColumn, IsSized}
 use Rattle.lake_model.specs.Growth.{IsGrowth}
 use Rattle.lake_model.specs.Plans as p
-use Rattle.lake_model.specs.Plans.{Plan, columns_from, or_else, refused_if, unless}
+use Rattle.lake_model.specs.Plans.{Plan, columns_from, or_else, refused_if}
 use Rattle.lake_model.specs.Rows as r
 use Rattle.lake_model.specs.State.{State, Table}
 use Rattle.lake_model.specs.Step as s

@@ -320,10 +320,10 @@ ends_taken a b f g name drew there same = record {
     all_stay None (Some g) same = same
 
 -- no answer is that a file is damaged
-pub no_damage : (why : NewFileNo) (no : StageNo) → no ≡ refusal why → (name : List ℕ) → no ≢ stage_no.Damaged name
-no_damage new_file_no.DiskFault no is name e = absurd (let h : stage_no.DiskFault ≡ stage_no.Damaged name = sym is ∙ e in cc)
-no_damage (new_file_no.Taken there) no is name e = absurd (let h : stage_no.Taken there ≡ stage_no.Damaged name = sym is ∙ e in cc)
-no_damage new_file_no.Memory no is name e = absurd (let h : stage_no.Memory ≡ stage_no.Damaged name = sym is ∙ e in cc)
+pub no_damage : (why : NewFileNo) (told : StageNo) → told ≡ refusal why → (name : List ℕ) → told ≢ stage_no.Damaged name
+no_damage new_file_no.DiskFault told is name e = absurd (let h : stage_no.DiskFault ≡ stage_no.Damaged name = sym is ∙ e in cc)
+no_damage (new_file_no.Taken there) told is name e = absurd (let h : stage_no.Taken there ≡ stage_no.Damaged name = sym is ∙ e in cc)
+no_damage new_file_no.Memory told is name e = absurd (let h : stage_no.Memory ≡ stage_no.Damaged name = sym is ∙ e in cc)
 
 pub no_damage_added : {T : Type 0} (result : Result T StageNo) → IfErr result (λ why. why ≡ stage_no.Memory) → IfErr result (λ why. (name : List ℕ) → why ≢ stage_no.Damaged name)
 no_damage_added (Ok x) memory = tt
