@@ -1,6 +1,6 @@
 //! Tests of the catalogue's rows and of what is beside them: batches, the cells of inlined rows, statistics
-//! of columns, rows laid by field id, and tests of rows. Each public call succeeds with ample memory, and
-//! gives what its format's examples say.
+//! of columns, rows laid by field id, tests of rows, and the rows that a transaction sees of a table. Each
+//! public call succeeds with ample memory, and gives what its format's examples say.
 #![tactic(auto)]
 
 #[cfg(test)]
@@ -11,5 +11,7 @@ mod cells;
 mod counts;
 #[cfg(test)]
 mod laid;
+#[cfg(test)]
+mod scans;
 #[cfg(test)]
 mod tested;

@@ -1,0 +1,12 @@
+mod PickLemmas
+mod FindLemmas
+mod OwnLemmas
+mod TellLemmas
+mod FileLemmas
+mod WorkLemmas
+mod AimLemmas
+mod OrderLemmas
+mod ScanLemmas
+mod RefusalLemmas
+mod AimedLemmas
+mod DamageLemmas

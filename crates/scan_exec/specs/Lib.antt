@@ -1,0 +1,9 @@
+pub mod Chosen
+pub mod Refusals
+pub mod Picking
+pub mod Finding
+pub mod Own
+pub mod Telling
+pub mod Aims
+pub mod Scans
+pub mod Damage
