@@ -1,5 +1,5 @@
 //! Tests of the catalogue's rules, of changes texts, of spans, of what a snapshot sees, of what a transaction adds
-//! to it and of the batch of its commit. It has no other functions.
+//! to it, of the batch of its commit and of the opening of a lake. It has no other functions.
 #![tactic(auto)]
 
 #[cfg(test)]
@@ -8,6 +8,8 @@ mod batch;
 mod buffer;
 #[cfg(test)]
 mod changes;
+#[cfg(test)]
+mod opening;
 #[cfg(test)]
 mod sane;
 #[cfg(test)]

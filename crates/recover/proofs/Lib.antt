@@ -1,0 +1,4 @@
+pub mod FolderLemmas
+pub mod HoldLemmas
+pub mod LawLemmas
+pub mod OpenLemmas
