@@ -1,0 +1,9 @@
+pub mod BeginLemmas
+pub mod CommitLemmas
+pub mod EnteredLemmas
+pub mod LandLemmas
+pub mod LineLemmas
+pub mod ListLemmas
+pub mod StagingLemmas
+pub mod StillLemmas
+pub mod WriteLemmas
