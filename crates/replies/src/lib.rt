@@ -1,0 +1,8 @@
+//! How a reply is printed: its rows and its answer, each as a line under the head of its session and number.
+#![tactic(auto)]
+
+mod answers;
+mod bytes;
+mod lines;
+
+pub use lines::push_reply;
