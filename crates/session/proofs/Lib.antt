@@ -1,9 +1,16 @@
 pub mod BeginLemmas
 pub mod CommitLemmas
+pub mod CountLemmas
 pub mod EnteredLemmas
 pub mod LandLemmas
 pub mod LineLemmas
 pub mod ListLemmas
+pub mod ReplyLemmas
+pub mod SelectLemmas
+pub mod SelectTurns
+pub mod ShownLemmas
 pub mod StagingLemmas
 pub mod StillLemmas
+pub mod TellLemmas
+pub mod TextLemmas
 pub mod WriteLemmas

@@ -22,7 +22,7 @@ use Rattle.cat_view.specs.Files.{Files}
 use Rattle.door.specs.Opened.{Agrees, Opened}
 use Rattle.door.specs.Standing.{HasStood}
 use Rattle.session.specs.Line.{Answers, IsAnswered, IsTurn, is_built}
-use Rattle.session.specs.Turns.{IsTurnFor, answered, loss_answer, own_after}
+use Rattle.session.specs.Turns.{IsTurnFor, IsTurnOver, answered, loss_answer, own_after}
 use Rattle.session.proofs.EnteredLemmas.{IsKept, has_entered}
 
 -- ---- want of memory may come at every statement
@@ -78,14 +78,14 @@ as_built x core core' own own' session r built turn = subst (λ b. IsAnswered b 
 
 -- one that calls no door
 pub line_turn : (serves : ℕ → Bool) (session : ℕ) (x : Stmt) (r : Reply) (own own' : List Change) (stands : Ground → Type 0) (files : Files) (opened : Option Opened) (g : Ground)
-    → is_built x ≡ true → stands g → Agrees files g.core (open_at g.core session) opened → IsTurnFor opened own session x r own'
+    → is_built x ≡ true → stands g → Agrees files g.core (open_at g.core session) opened → IsTurnOver files opened own session x r own'
     → Answers serves session x r own own' stands g
 line_turn serves session x r own own' stands files opened g built stood agrees turns = record {
   others = [];
   are_others = tt;
   legal = tt;
   ground = g;
-  answered = as_built x g.core g.core own own' session r built (turns files g.core agrees);
+  answered = as_built x g.core g.core own own' session r built (turns g.core agrees);
   stood = stood;
 }
 

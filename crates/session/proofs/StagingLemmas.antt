@@ -9,7 +9,7 @@ use Rattle.lake_model.specs.History.{CarriedFile}
 use Rattle.lake_model.specs.State.{State, Table}
 use Rattle.lake_model.specs.declared.call.Open.{Open}
 use Rattle.lake_model.specs.declared.change.Txn.{Txn}
-use Rattle.file_disk.specs.Folder.{Changes, Folder, StaysIfThere}
+use Rattle.file_disk.specs.Folder.{Changes, Folder, Same, StaysIfThere}
 use Rattle.cat_view.specs.Files.{Extends, Files}
 use Rattle.cat_view.specs.Named.{NamedTable, NamedVersion, state_of, table_of}
 use Rattle.cat_view.specs.Staged.{IsStaged, IsStagedTable, NamedStagedTable, nothing_for}
@@ -54,6 +54,13 @@ changes_with P Q T f (Some a) (Some b) h t = f a b h t
 changes_with P Q T f None None h t = h
 changes_with P Q T f (Some a) None h t = h
 changes_with P Q T f None (Some b) h t = h
+
+-- and what is told of it before
+pub changes_from : (P Q : Folder → Folder → Type 0) (T : Folder → Type 0) → ((a b : Folder) → P a b → T a → Q a b) → (x y : Option Folder) → Changes P x y → IfSome x T → Changes Q x y
+changes_from P Q T f (Some a) (Some b) h t = f a b h t
+changes_from P Q T f None None h t = h
+changes_from P Q T f (Some a) None h t = h
+changes_from P Q T f None (Some b) h t = h
 
 no_files : Files
 no_files name = None
@@ -196,6 +203,10 @@ extends_stays old new stays name is = go (stays name)
     go : StaysIfThere (old name) (new name) → files_of new name ≡ files_of old name
     go (inl none) = absurd (let h : is_some (option_map filed (old name)) ≡ false = ap (λ o. is_some (option_map filed o)) none in cc)
     go (inr same) = ap (option_map filed) same
+
+-- all of them are the same
+pub extends_same : (old new : Folder) → Same old new → Extends (files_of old) (files_of new)
+extends_same old new same name is = ap (option_map filed) (same name)
 
 -- ---- nothing is staged for no changes
 

@@ -16,20 +16,26 @@ use Rattle.txn_buf.specs.declared.buffer.TxnBuf.{TxnBuf}
 use Rattle.door.specs.Opened.{Agrees, AgreesOn, Opened, opened_of}
 use Rattle.session.specs.Held.{IsReady, number_of, open_of, opened_in, own_in, own_of}
 use Rattle.session.specs.Line.{Answers, is_built}
-use Rattle.session.specs.Turns.{IsTurnFor, stage_answer}
+use Rattle.session.specs.Turns.{IsTurnFor, IsTurnOver, stage_answer}
 use Rattle.session.specs.declared.session.Session.{Session}
 use Rattle.session.proofs.CommitLemmas.{commit_unopened, rollback_unopened, turn_unstaged}
 use Rattle.session.proofs.LineLemmas.{begin_at_busy, begin_busy, line_turn}
 
 module _ {F : Type 0} (name : F → List ℕ) (size : F → ℕ) (bytes : F → Option (List ℕ)) where
   -- what the session has open is what the lake says
+  pub line_held : (serves : ℕ → Bool) (opened : ℕ → Option Opened) (s : Session F) (x : Stmt) (r : Reply) (own' : List Change) (files : Files) (stands : Ground → Type 0) (g : Ground)
+      → is_built x ≡ true → IsReady name size bytes s (opened (number_of s)) → serves (number_of s) ≡ true → AgreesOn serves files g.core opened → stands g
+      → IsTurnOver files (opened_in name size bytes (open_of s)) (own_of s) (number_of s) x r own' → Answers serves (number_of s) x r (own_of s) own' stands g
+  line_held serves opened s x r own' files stands g built ready served agrees stood turns =
+      line_turn serves (number_of s) x r (own_of s) own' stands files (opened_in name size bytes (open_of s)) g built stood
+      (subst (Agrees files g.core (open_at g.core (number_of s))) (sym ready.holds) (agrees (number_of s) served)) turns
+
   pub line_still : (serves : ℕ → Bool) (opened : ℕ → Option Opened) (s : Session F) (x : Stmt) (r said : Reply) (own' : List Change) (files : Files) (stands : Ground → Type 0) (g : Ground)
       → is_built x ≡ true → IsReady name size bytes s (opened (number_of s)) → serves (number_of s) ≡ true → AgreesOn serves files g.core opened → stands g
       → IsTurnFor (opened_in name size bytes (open_of s)) (own_of s) (number_of s) x r own' → said ≡ r → Answers serves (number_of s) x said (own_of s) own' stands g
   line_still serves opened s x r said own' files stands g built ready served agrees stood turns is =
       subst (λ q. Answers serves (number_of s) x q (own_of s) own' stands g) (sym is)
-      (line_turn serves (number_of s) x r (own_of s) own' stands files (opened_in name size bytes (open_of s)) g built stood
-      (subst (Agrees files g.core (open_at g.core (number_of s))) (sym ready.holds) (agrees (number_of s) served)) turns)
+      (line_held serves opened s x r own' files stands g built ready served agrees stood (turns files))
 
   pub begin_open : (o : Option (TxnBuf F)) (own : List Change) (session : ℕ) → IsSome o → IsTurnFor (opened_in name size bytes o) own session stmt.Begin (only answer.InTransaction) own
   begin_open None own session h = absurd (search (rules, h))

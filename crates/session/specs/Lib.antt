@@ -1,4 +1,6 @@
 pub mod Held
 pub mod Line
+pub mod Select
+pub mod Shown
 pub mod Staging
 pub mod Turns

@@ -17,7 +17,6 @@ abbrev pub is_built : Stmt → Bool
 is_built (stmt.Change table alteration) = false
 is_built (stmt.Delete table test) = false
 is_built (stmt.Update table set test) = false
-is_built (stmt.Select table items test) = false
 is_built (stmt.Compact table) = false
 is_built (stmt.Flush table) = false
 is_built (stmt.Expire n) = false

@@ -20,10 +20,13 @@ use Rattle.session.specs.Line.{IsTurn}
 
 -- ---- statements that call no door
 
--- a turn that leaves the core as it is, on each core that agrees with what is open
+-- a turn that leaves the core as it is, on each core that agrees, over these files, with what is open
+abbrev pub IsTurnOver : Files → Option Opened → List Change → ℕ → Stmt → Reply → List Change → Type 0
+IsTurnOver files opened own session x r own' = (core : Core) → Agrees files core (open_at core session) opened → IsTurn core own session x r own' core
+
+-- the same over any files
 abbrev pub IsTurnFor : Option Opened → List Change → ℕ → Stmt → Reply → List Change → Type 0
-IsTurnFor opened own session x r own' =
-    (files : Files) (core : Core) → Agrees files core (open_at core session) opened → IsTurn core own session x r own' core
+IsTurnFor opened own session x r own' = (files : Files) → IsTurnOver files opened own session x r own'
 
 -- statements that add a change to the own list
 abbrev pub is_written : Stmt → Bool
@@ -37,6 +40,7 @@ is_written x = false
 -- statements that write or read files
 abbrev pub uses_files : Stmt → Bool
 uses_files stmt.Commit = true
+uses_files (stmt.Select table items test) = true
 uses_files x = false
 
 -- ---- answers to what a door replies

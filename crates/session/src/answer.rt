@@ -7,8 +7,9 @@ ghost use Rattle.cat_view.specs.Files.{Files};
 ghost use Rattle.row_files.specs.Folders.{files_of};
 ghost use Rattle.row_files.specs.Stages.{EndsAtTaken};
 ghost use Rattle.txn_buf.specs.Sizes.{IsSizedStmt};
-ghost use Rattle.session.specs.Held.{IsReady, number_of, own_of};
+ghost use Rattle.session.specs.Held.{IsReady, number_of, open_of, own_of};
 ghost use Rattle.session.specs.Line.{Answers};
+ghost use Rattle.session.specs.Select.{AreReadFor, IsDamagedFor, ReadsFor};
 ghost use Rattle.session.specs.Turns.{is_fault, uses_files};
 
 use crate::replies::only;
@@ -83,12 +84,17 @@ impl<F: Held> Session<F> {
         ensures keeper { result.last ≡ answer.Keeper → Rose (R.keeper_faults door.old) (R.keeper_faults door.new) }
         ensures disk_later { D.faults disk.old ≤ D.faults disk.new }
         ensures disk { result.last ≡ answer.Disk → Rose (D.faults disk.old) (D.faults disk.new) }
-        ensures whole { (name : List ℕ) → result.last ≢ answer.Damaged name }
+        ensures damaged { (name : List ℕ) → result.last ≡ answer.Damaged name →
+            IsDamagedFor F.name F.part F.bytes (D.part disk.old) (D.files disk.old)
+            (open_of self.old) stmt.now name }
+        ensures whole { (n : ℕ) → result.last ≡ answer.Number n →
+            AreReadFor F.name F.part F.bytes (D.part disk.old) (D.files disk.old)
+            (open_of self.old) stmt.now }
+        ensures reads { ReadsFor F.name (open_of self.old) stmt.now result.last (D.opens disk.old) (D.opens disk.new) }
         ensures taken { (name : List ℕ) → result.last ≡ answer.NameTaken name →
             EndsAtTaken (N.drawn names.old) (N.drawn names.new) (D.files disk.old) (D.files disk.new) name }
         ensures taken_untold { (name : List ℕ) → result.last ≡ answer.NameTaken name →
             IfNone (D.files disk.old) (Rose (D.faults disk.old) (D.faults disk.new)) }
-        ensures opens { D.opens disk.new ≡ D.opens disk.old }
         ensures part { D.part disk.new ≡ D.part disk.old }
         ensures line { Changes (λ folder folder'. (g : Ground) → R.stands door.old (files_of folder) g →
             Answers (R.serves door.old) (number_of self.old) stmt.now result
@@ -97,6 +103,9 @@ impl<F: Held> Session<F> {
     {
         match stmt {
             Stmt::Commit => self.commit(alloc, door, disk, names, clock),
+            Stmt::Select { table, items, pred } => {
+                self.select(alloc, disk, table, items.as_slice(), pred.as_ref())
+            }
             _ => self.answer_without_files(alloc, door, stmt),
         }
     }
