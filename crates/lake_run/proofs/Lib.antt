@@ -1,0 +1,5 @@
+pub mod DeskLemmas
+pub mod LineLemmas
+pub mod RunningLemmas
+pub mod SessionsLemmas
+pub mod SixteenLemmas

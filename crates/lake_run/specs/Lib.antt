@@ -1,0 +1,4 @@
+pub mod Desks
+pub mod Running
+pub mod Script
+pub mod Sixteen
