@@ -1,145 +1,54 @@
 -- How a desk goes on.
-use Rattle.std.proofs.Common.{◌≡◌, ◌≢◌, ℕ, ◌+◌, ◌<◌, ◌≤◌, List, [], ◌∷◌, ◌++◌, length, take, drop, refl, ap, arith, sym, ◌∙◌, append_assoc, append-nil, subst, add-one, suc, cond, Bool, true, false}
+use Rattle.std.proofs.Common.{◌≡◌, ◌≢◌, ◌⊎◌, inl, inr, ℕ, ◌+◌, ◌<◌, ◌≤◌, List, [], ◌∷◌, ◌++◌, length, length-append, take, drop, refl, ap, arith, sym, ◌∙◌, append_assoc, append-nil, subst, add-one, suc, cond, Bool, true, false}
 use Rattle.std.specs.Prelude.{Option, nat_eq}
 use Rattle.std.proofs.lemmas.List.{take-append-drop, take_all}
 use Rattle.std.proofs.Math.Seq.{take-add}
 use Rattle.lake_io.specs.Told.{Takes}
 use Rattle.lake_io.proofs.ToldLemmas.{Takes-nothing, Takes-then}
-use Rattle.plain_model.specs.Cuts.{ended_lines, NoFeed}
-use Rattle.plain_model.specs.Lake.{Lake}
-use Rattle.plain_model.specs.Replay.{replay_text}
-use Rattle.plain_model.proofs.CutLemmas.{ended-line, ended-none, NoFeed-append}
-use Rattle.lake_top.specs.Desk.{Desk, text_from, GoesOn, GoesOnWith, Answers, Breaks, Ends, Stops, TellsSome, line_len}
-use Rattle.lake_top.specs.Script.{counted}
+use Rattle.lake_model.proofs.LineLemmas.{ended-line}
+use Rattle.lake_model.specs.Replay.{Line, NoFeed, ended_lines}
+use Rattle.lake_top.proofs.RunningLemmas.{goes_none, goes_then, texts_then}
+use Rattle.lake_top.specs.Desks.{Answers, Carries, Goes, Leaves, Moment, Stops, Tells, line_len}
+use Rattle.lake_top.specs.Running.{texts_of}
+use Rattle.lake_top.specs.Script.{counted, lines_from}
+use Rattle.lake_top.specs.declared.desk.Desk.{Desk}
 use Rattle.lake_top.specs.declared.desk.Stop.{Stop}
-use Rattle.lake_top.specs.declared.desk.Stop.TheVariants.{Memory, Write}
+use Rattle.lake_top.specs.declared.desk.Stop.TheVariants.{Memory}
 
--- more bytes of the line
-pub goes-on-hold : (lake : Lake) (counts pending part : List ℕ) → GoesOn (record { lake = lake; counts = counts; pending = pending }) (record { lake = lake; counts = counts; pending = pending ++ part }) part [] []
-goes-on-hold lake counts pending part more later = ap (λ bytes. replay_text lake (counted counts (ended_lines bytes)) later) (sym (append_assoc pending part more))
+-- ---- lines that end
 
-pub ruleset holds = (goes-on-hold, NoFeed-append)
+none-step : (b : ℕ) (line : List ℕ) (t : Bool) → nat_eq b 10 ≡ t → b ≢ 10 → ended_lines line ≡ [] → ended_lines (b ∷ line) ≡ []
+none-step b line true e ne none = absurd (ne (search (arith, e)))
+none-step b line false e ne none = rw (e, none) refl
 
--- the line's end
-pub goes-on-feed : (lake lake' : Lake) (counts counts' pending text : List ℕ) → NoFeed pending → TellsSome lake counts pending text lake' counts' → GoesOnWith (record { lake = lake; counts = counts; pending = pending }) (record { lake = lake'; counts = counts'; pending = [] }) (10 ∷ []) text
-goes-on-feed lake lake' counts counts' pending text h t = record {
-  lost = t.lost;
-  goes_on = λ more later. ap (λ lines. replay_text lake (counted counts lines) (t.lost ++ later)) (ended-line pending more h) ∙ t.tells (ended_lines more) later;
-}
+ended-none : (line : List ℕ) → NoFeed line → ended_lines line ≡ []
+ended-none [] h = refl
+ended-none (b ∷ line) h = none-step b line (nat_eq b 10) refl h.0 (ended-none line h.1)
 
-pub ruleset feeds = (goes-on-feed)
+pub lines-none : (counts pending : List ℕ) → NoFeed pending → lines_from counts pending ≡ []
+lines-none counts pending h = ap (counted counts) (ended-none pending h)
 
--- what a desk that has not ended a line has to write
-pub text-none : (a : Desk) (lost : List Bool) → NoFeed a.pending → text_from a [] lost ≡ []
-text-none a lost h = ap (λ bytes. replay_text a.lake (counted a.counts (ended_lines bytes)) lost) (append-nil a.pending) ∙ ap (λ lines. replay_text a.lake (counted a.counts lines) lost) (ended-none a.pending h)
+lines-end : (counts pending more : List ℕ) → NoFeed pending → lines_from counts (pending ++ 10 ∷ more) ≡ counted counts (pending ∷ ended_lines more)
+lines-end counts pending more h = ap (counted counts) (ended-line pending more h)
 
-pub goes-on-then : (a b c : Desk) (x y : List ℕ) (l m : List Bool) (out out' : List ℕ) → GoesOn a b x l out → GoesOn b c y m out' → GoesOn a c (x ++ y) (l ++ m) (out ++ out')
-goes-on-then a b c x y l m out out' p q more later =
-    ap (λ bytes. text_from a bytes ((l ++ m) ++ later)) (append_assoc x y more) ∙ ap (text_from a (x ++ (y ++ more))) (append_assoc l m later) ∙ p (y ++ more) (m ++ later) ∙ ap (λ t. out ++ t) (q more later) ∙ sym (append_assoc out out' (text_from c more later))
+carries_none : (counts pending : List ℕ) → Carries counts pending [] [] counts pending
+carries_none counts pending more = refl
 
-pub answers-none : (a : Desk) (s : Option (List ℕ)) → NoFeed a.pending → Answers a a [] s s
-answers-none a s h = record { begun = h; lost = []; out = []; written = Takes-nothing s; goes_on = λ more later. refl }
+carries_hold : (counts pending part : List ℕ) → Carries counts pending part [] counts (pending ++ part)
+carries_hold counts pending part more = ap (lines_from counts) (sym (append_assoc pending part more))
 
-pub answers-then : (a b c : Desk) (x y : List ℕ) (s t u : Option (List ℕ)) → Answers a b x s t → Answers b c y t u → Answers a c (x ++ y) s u
-answers-then a b c x y s t u p q = record {
-  begun = q.begun;
-  lost = p.lost ++ q.lost;
-  out = p.out ++ q.out;
-  written = Takes-then s t u p.out q.out p.written q.written;
-  goes_on = goes-on-then a b c x y p.lost q.lost p.out q.out p.goes_on q.goes_on;
-}
+carries_then : (c c' c'' p p' p'' x y : List ℕ) (ls ms : List Line) → Carries c p x ls c' p' → Carries c' p' y ms c'' p'' → Carries c p (x ++ y) (ls ++ ms) c'' p''
+carries_then c c' c'' p p' p'' x y ls ms f g more =
+    ap (λ l. lines_from c (p ++ l)) (append_assoc x y more) ∙ f (y ++ more) ∙ ap (λ l. ls ++ l) (g more) ∙ sym (append_assoc ls ms (lines_from c'' (p'' ++ more)))
 
-pub breaks-then : (a b : Desk) (x y : List ℕ) (s t u : Option (List ℕ)) → Answers a b x s t → Breaks b y t u → Breaks a (x ++ y) s u
-breaks-then a b x y s t u p q = record {
-  front = x ++ q.front;
-  back = q.back;
-  is = append_assoc x q.front q.back ∙ ap (λ l. x ++ l) q.is;
-  lost = p.lost ++ q.lost;
-  out = p.out ++ q.out;
-  written = Takes-then s t u p.out q.out p.written q.written;
-  missing = q.missing;
-  text = p.goes_on q.front q.lost ∙ ap (λ l. p.out ++ l) q.text ∙ sym (append_assoc p.out q.out q.missing);
-}
+pub both-same : {A B : Type 0} (x x' : List A) (y y' : List B) → length x ≡ length y → length x' ≡ length y' → length (x ++ x') ≡ length (y ++ y')
+both-same x x' y y' p q = grind (arith, p, q, length-append x x', length-append y y')
 
-pub ends-then : (a b : Desk) (x y : List ℕ) (s t u : Option (List ℕ)) → Answers a b x s t → Ends b y t u → Ends a (x ++ y) s u
-ends-then a b x y s t u p q = record {
-  front = x ++ q.front;
-  back = q.back;
-  is = append_assoc x q.front q.back ∙ ap (λ l. x ++ l) q.is;
-  lost = p.lost ++ q.lost;
-  out = p.out ++ q.out;
-  written = Takes-then s t u p.out q.out p.written q.written;
-  text = p.goes_on q.front q.lost ∙ ap (λ l. p.out ++ l) q.text;
-}
+pub subst2 : {A B : Type 0} (P : A → B → Type 0) {a a' : A} {b b' : B} → a ≡ a' → b ≡ b' → P a b → P a' b'
+subst2 P {a} {a'} {b} {b'} e f p = subst (P a') f (subst (λ x. P x b) e p)
 
--- nothing of the bytes is answered
-pub ends-none : (a : Desk) (y : List ℕ) (s : Option (List ℕ)) → NoFeed a.pending → Ends a y s s
-ends-none a y s h = record { front = []; back = y; is = refl; lost = []; out = []; written = Takes-nothing s; text = text-none a [] h }
+-- ---- the bytes before a line feed
 
--- what is to be written for the line that has ended
-feed-text : (a b : Desk) (text : List ℕ) (g : GoesOnWith a b (10 ∷ []) text) → b.pending ≡ [] → text_from a (10 ∷ []) g.lost ≡ text
-feed-text a b text g e =
-    let none : text_from b [] [] ≡ [] = ap (λ pending. replay_text b.lake (counted b.counts (ended_lines (pending ++ []))) []) e in
-    ap (text_from a (10 ∷ [])) (sym (append-nil g.lost)) ∙ g.goes_on [] [] ∙ ap (λ l. text ++ l) none ∙ append-nil text
-
-pub answers-feed : (a b : Desk) (text : List ℕ) (s t : Option (List ℕ)) → GoesOnWith a b (10 ∷ []) text → b.pending ≡ [] → Takes s t text → Answers a b (10 ∷ []) s t
-answers-feed a b text s t g e w =
-    let P : List ℕ → Type 0 = NoFeed in
-    record { begun = subst P (sym e) tt; lost = g.lost; out = text; written = w; goes_on = g.goes_on }
-
-pub breaks-feed : (a b : Desk) (text : List ℕ) (s t : Option (List ℕ)) (n : ℕ) → GoesOnWith a b (10 ∷ []) text → b.pending ≡ [] → Takes s t (take n text) → Breaks a (10 ∷ []) s t
-breaks-feed a b text s t n g e w = record {
-  front = 10 ∷ [];
-  back = [];
-  is = refl;
-  lost = g.lost;
-  out = take n text;
-  written = w;
-  missing = drop n text;
-  text = feed-text a b text g e ∙ sym (take-append-drop n text);
-}
-
--- the bytes of a line, and then its end
-pub answers-hold : (a b : Desk) (part : List ℕ) (s : Option (List ℕ)) → GoesOn a b part [] [] → NoFeed b.pending → Answers a b part s s
-answers-hold a b part s g h = record { begun = h; lost = []; out = []; written = Takes-nothing s; goes_on = g }
-
--- the same of what has stopped a desk
-pub stops-then : (stop : Stop) (a b : Desk) (x y : List ℕ) (s t u : Option (List ℕ)) → Answers a b x s t → Stops stop b y t u → Stops stop a (x ++ y) s u
-stops-then Memory a b x y s t u p q = ends-then a b x y s t u p q
-stops-then Write a b x y s t u p q = breaks-then a b x y s t u p q
-
--- a desk that wants memory before it has answered anything
-pub stops-none : (stop : Stop) (a : Desk) (y : List ℕ) (s : Option (List ℕ)) → stop ≢ Write → NoFeed a.pending → Stops stop a y s s
-stops-none Memory a y s ne h = ends-none a y s h
-stops-none Write a y s ne h = absurd (ne refl)
-
--- a desk stops within more bytes, too
-pub stops-more : (stop : Stop) (a : Desk) (x y : List ℕ) (s t : Option (List ℕ)) → Stops stop a x s t → Stops stop a (x ++ y) s t
-stops-more Memory a x y s t p = record {
-  front = p.front;
-  back = p.back ++ y;
-  is = sym (append_assoc p.front p.back y) ∙ ap (λ l. l ++ y) p.is;
-  lost = p.lost;
-  out = p.out;
-  written = p.written;
-  text = p.text;
-}
-stops-more Write a x y s t p = record {
-  front = p.front;
-  back = p.back ++ y;
-  is = sym (append_assoc p.front p.back y) ∙ ap (λ l. l ++ y) p.is;
-  lost = p.lost;
-  out = p.out;
-  written = p.written;
-  missing = p.missing;
-  text = p.text;
-}
-
-pub stops-feed : (stop : Stop) (a b : Desk) (text : List ℕ) (s t : Option (List ℕ)) (n : ℕ) → stop ≢ Memory → GoesOnWith a b (10 ∷ []) text → b.pending ≡ [] → Takes s t (take n text) → Stops stop a (10 ∷ []) s t
-stops-feed Memory a b text s t n ne g e w = absurd (ne refl)
-stops-feed Write a b text s t n ne g e w = breaks-feed a b text s t n g e w
-
--- the bytes before a line feed
 inside-step : (b : ℕ) (bytes : List ℕ) (t : Bool) → nat_eq b 10 ≡ t → NoFeed (take (line_len bytes) bytes) → NoFeed (take (cond t 0 (suc (line_len bytes))) (b ∷ bytes))
 inside-step b bytes true e h = tt
 inside-step b bytes false e h = (search arith, h)
@@ -157,28 +66,195 @@ feed-step : (b : ℕ) (bytes : List ℕ) (t : Bool) → nat_eq b 10 ≡ t → (l
 feed-step b bytes true e h lt = let ten : b ≡ 10 = search (arith, e) in ap (λ x. x ∷ []) ten
 feed-step b bytes false e h lt = ap (λ l. b ∷ l) (h (omega (arith, lt)))
 
-pub line_len-feed : (bytes : List ℕ) → line_len bytes < length bytes → take (suc (line_len bytes)) bytes ≡ take (line_len bytes) bytes ++ 10 ∷ []
+line_len-feed : (bytes : List ℕ) → line_len bytes < length bytes → take (suc (line_len bytes)) bytes ≡ take (line_len bytes) bytes ++ 10 ∷ []
 line_len-feed [] h = absurd (omega (arith, h))
 line_len-feed (b ∷ bytes) h = feed-step b bytes (nat_eq b 10) refl (line_len-feed bytes) h
 
--- the bytes of a line with its end, as a desk takes them
-pub answers-line : (a b : Desk) (bytes : List ℕ) (len : ℕ) (part : List ℕ) (s t : Option (List ℕ)) → len ≡ line_len bytes → len < length bytes → part ≡ take len bytes → Answers a b (part ++ 10 ∷ []) s t → Answers a b (take (len + 1) bytes) s t
-answers-line a b bytes len part s t v lt e p =
-    let whole : part ++ 10 ∷ [] ≡ take (len + 1) bytes = rw (e, v, add-one) (sym (line_len-feed bytes (rw v at lt))) in
-    let P : List ℕ → Type 0 = λ x. Answers a b x s t in
-    subst P whole p
+module _ {F : Type 0} where
+  -- ---- a desk that answers
 
-pub stops-line : (stop : Stop) (a : Desk) (bytes : List ℕ) (len : ℕ) (part : List ℕ) (s t : Option (List ℕ)) → len ≡ line_len bytes → len < length bytes → part ≡ take len bytes → Stops stop a (part ++ 10 ∷ []) s t → Stops stop a bytes s t
-stops-line stop a bytes len part s t v lt e p =
-    let whole : (part ++ 10 ∷ []) ++ drop (suc len) bytes ≡ bytes = rw (e, v) (ap (λ l. l ++ drop (suc (line_len bytes)) bytes) (sym (line_len-feed bytes (rw v at lt))) ∙ take-append-drop (suc (line_len bytes)) bytes) in
-    let P : List ℕ → Type 0 = λ x. Stops stop a x s t in
-    subst P whole (stops-more stop a (part ++ 10 ∷ []) (drop (suc len) bytes) s t p)
+  pub answers_none : (d : Desk F) (a : Moment) (s : Option (List ℕ)) → NoFeed d.pending.items → Answers d d a a [] s s
+  answers_none d a s h = record { lines = []; replies = []; carries = carries_none d.counts.items d.pending.items; same = refl; begun = h; goes = goes_none a; written = Takes-nothing s }
 
--- the answers to a further part of one piece
-pub answers-more : (a b c : Desk) (i n : ℕ) (piece : List ℕ) (s t u : Option (List ℕ)) → Answers a b (take i piece) s t → Answers b c (take n (drop i piece)) t u → Answers a c (take (i + n) piece) s u
-answers-more a b c i n piece s t u p q = rw take-add (answers-then a b c _ _ s t u p q)
+  pub answers_then : (d e f : Desk F) (a b c : Moment) (x y : List ℕ) (s t u : Option (List ℕ)) → Answers d e a b x s t → Answers e f b c y t u → Answers d f a c (x ++ y) s u
+  answers_then d e f a b c x y s t u p q = record {
+    lines = p.lines ++ q.lines;
+    replies = p.replies ++ q.replies;
+    same = both-same p.lines q.lines p.replies q.replies p.same q.same;
+    carries = carries_then d.counts.items e.counts.items f.counts.items d.pending.items e.pending.items f.pending.items x y p.lines q.lines p.carries q.carries;
+    begun = q.begun;
+    goes = goes_then a b c p.lines q.lines p.replies q.replies p.goes q.goes;
+    written = subst (Takes s u) (sym (texts_then p.lines p.replies q.lines q.replies p.same)) (Takes-then s t u (texts_of p.lines p.replies) (texts_of q.lines q.replies) p.written q.written);
+  }
 
-pub stops-rest : (stop : Stop) (a b : Desk) (i : ℕ) (piece : List ℕ) (s t u : Option (List ℕ)) → Answers a b (take i piece) s t → Stops stop b (drop i piece) t u → Stops stop a piece s u
-stops-rest stop a b i piece s t u p q =
-    let P : List ℕ → Type 0 = λ x. Stops stop a x s u in
-    subst P (take-append-drop i piece) (stops-then stop a b (take i piece) (drop i piece) s t u p q)
+  -- the bytes of a line that goes on
+  pub answers_hold : (d e : Desk F) (a b : Moment) (part : List ℕ) (s : Option (List ℕ)) → e.counts.items ≡ d.counts.items → e.pending.items ≡ d.pending.items ++ part → NoFeed e.pending.items → Goes a b [] [] → Answers d e a b part s s
+  answers_hold d e a b part s c p h g = record {
+    lines = [];
+    replies = [];
+    same = refl;
+    carries = λ more. carries_hold d.counts.items d.pending.items part more ∙ sym (ap (λ l. lines_from l (e.pending.items ++ more)) c ∙ ap (λ l. lines_from d.counts.items (l ++ more)) p);
+    begun = h;
+    goes = g;
+    written = Takes-nothing s;
+  }
+
+  -- the line feed
+  pub answers_feed : (d e : Desk F) (a b : Moment) (text : List ℕ) (s t : Option (List ℕ)) → NoFeed d.pending.items → e.pending.items ≡ [] → Tells d.counts.items d.pending.items text e.counts.items a b → Takes s t text → Answers d e a b (10 ∷ []) s t
+  answers_feed d e a b text s t h p q w = record {
+    lines = q.lines;
+    replies = q.replies;
+    same = q.same;
+    carries = λ more. lines-end d.counts.items d.pending.items more h ∙ q.tells (ended_lines more) ∙ ap (λ l. q.lines ++ lines_from e.counts.items (l ++ more)) (sym p);
+    begun = subst NoFeed (sym p) tt;
+    goes = q.goes;
+    written = subst (Takes s t) q.text_is w;
+  }
+
+  -- ---- a desk that stops
+
+  -- before anything of the bytes is answered
+  pub stops_none : (stop : Stop) (d : Desk F) (a b : Moment) (y : List ℕ) (s : Option (List ℕ)) → NoFeed d.pending.items → Goes a b [] [] → Stops stop d a b y s s
+  stops_none stop d a b y s h g = record {
+    front = [];
+    back = y;
+    is = refl;
+    lines = [];
+    replies = [];
+    same = refl;
+    last = [];
+    unwritten = [];
+    one = omega arith;
+    are = ap (lines_from d.counts.items) (append-nil d.pending.items) ∙ lines-none d.counts.items d.pending.items h;
+    goes = g;
+    part = [];
+    missing = [];
+    cut = refl;
+    none = λ e. refl;
+    written = Takes-nothing s;
+  }
+
+  abbrev pub stops_then : (stop : Stop) (d e : Desk F) (a b c : Moment) (x y : List ℕ) (s t u : Option (List ℕ)) → Answers d e a b x s t → Stops stop e b c y t u → Stops stop d a c (x ++ y) s u
+  stops_then stop d e a b c x y s t u p q = record {
+    front = x ++ q.front;
+    back = q.back;
+    is = append_assoc x q.front q.back ∙ ap (λ l. x ++ l) q.is;
+    lines = p.lines ++ q.lines;
+    replies = p.replies ++ q.replies;
+    same = both-same p.lines q.lines p.replies q.replies p.same q.same;
+    last = q.last;
+    unwritten = q.unwritten;
+    one = q.one;
+    are = p.carries q.front ∙ ap (λ l. p.lines ++ l) q.are ∙ sym (append_assoc p.lines q.lines q.last);
+    goes = subst2 (Goes a c) (sym (append_assoc p.lines q.lines q.last)) (sym (append_assoc p.replies q.replies q.unwritten)) (goes_then a b c p.lines (q.lines ++ q.last) p.replies (q.replies ++ q.unwritten) p.goes q.goes);
+    part = q.part;
+    missing = q.missing;
+    cut = q.cut;
+    none = q.none;
+    written = subst (Takes s u) (sym (append_assoc (texts_of p.lines p.replies) (texts_of q.lines q.replies) q.part) ∙ ap (λ l. l ++ q.part) (sym (texts_then p.lines p.replies q.lines q.replies p.same)))
+        (Takes-then s t u (texts_of p.lines p.replies) (texts_of q.lines q.replies ++ q.part) p.written q.written);
+  }
+
+  -- within more bytes, too
+  pub stops_more : (stop : Stop) (d : Desk F) (a b : Moment) (x y : List ℕ) (s t : Option (List ℕ)) → Stops stop d a b x s t → Stops stop d a b (x ++ y) s t
+  stops_more stop d a b x y s t p = record {
+    front = p.front;
+    back = p.back ++ y;
+    is = sym (append_assoc p.front p.back y) ∙ ap (λ l. l ++ y) p.is;
+    lines = p.lines;
+    replies = p.replies;
+    same = p.same;
+    last = p.last;
+    unwritten = p.unwritten;
+    one = p.one;
+    are = p.are;
+    goes = p.goes;
+    part = p.part;
+    missing = p.missing;
+    cut = p.cut;
+    none = p.none;
+    written = p.written;
+  }
+
+  -- memory is wanting for the line that has ended
+  pub stops_left : (d : Desk F) (a b : Moment) (s : Option (List ℕ)) → NoFeed d.pending.items → Leaves d.counts.items d.pending.items a b → Stops Memory d a b (10 ∷ []) s s
+  stops_left d a b s h l = go l.is_last
+    where
+      go : (l.last ≡ []) ⊎ (counted d.counts.items (d.pending.items ∷ []) ≡ l.last) → Stops Memory d a b (10 ∷ []) s s
+      go (inl e) = record {
+        front = [];
+        back = 10 ∷ [];
+        is = refl;
+        lines = [];
+        replies = [];
+        same = refl;
+        last = l.last;
+        unwritten = l.unwritten;
+        one = l.one;
+        are = ap (lines_from d.counts.items) (append-nil d.pending.items) ∙ lines-none d.counts.items d.pending.items h ∙ sym e;
+        goes = l.goes;
+        part = [];
+        missing = texts_of l.last l.unwritten;
+        cut = refl;
+        none = λ e. refl;
+        written = Takes-nothing s;
+      }
+      go (inr e) = record {
+        front = 10 ∷ [];
+        back = [];
+        is = refl;
+        lines = [];
+        replies = [];
+        same = refl;
+        last = l.last;
+        unwritten = l.unwritten;
+        one = l.one;
+        are = lines-end d.counts.items d.pending.items [] h ∙ e;
+        goes = l.goes;
+        part = [];
+        missing = texts_of l.last l.unwritten;
+        cut = refl;
+        none = λ e. refl;
+        written = Takes-nothing s;
+      }
+
+  -- the sink fails within its reply
+  pub stops_cut : (stop : Stop) (d e : Desk F) (a b : Moment) (text : List ℕ) (s t : Option (List ℕ)) (n : ℕ) → stop ≢ Memory → NoFeed d.pending.items → Tells d.counts.items d.pending.items text e.counts.items a b → Takes s t (take n text) → Stops stop d a b (10 ∷ []) s t
+  stops_cut stop d e a b text s t n ne h q w = record {
+    front = 10 ∷ [];
+    back = [];
+    is = refl;
+    lines = [];
+    replies = [];
+    same = refl;
+    last = q.lines;
+    unwritten = q.replies;
+    one = q.one;
+    are = lines-end d.counts.items d.pending.items [] h ∙ q.tells [] ∙ append-nil q.lines;
+    goes = q.goes;
+    part = take n text;
+    missing = drop n text;
+    cut = take-append-drop n text ∙ q.text_is;
+    none = λ m. absurd (ne m);
+    written = w;
+  }
+
+  -- ---- the bytes of one line
+
+  pub answers_line : (d e : Desk F) (a b : Moment) (bytes : List ℕ) (len : ℕ) (part : List ℕ) (s t : Option (List ℕ)) → len ≡ line_len bytes → len < length bytes → part ≡ take len bytes → Answers d e a b (part ++ 10 ∷ []) s t → Answers d e a b (take (len + 1) bytes) s t
+  answers_line d e a b bytes len part s t v lt is p =
+      let whole : part ++ 10 ∷ [] ≡ take (len + 1) bytes = rw (is, v, add-one) (sym (line_len-feed bytes (rw v at lt))) in
+      subst (λ x. Answers d e a b x s t) whole p
+
+  pub stops_line : (stop : Stop) (d : Desk F) (a b : Moment) (bytes : List ℕ) (len : ℕ) (part : List ℕ) (s t : Option (List ℕ)) → len ≡ line_len bytes → len < length bytes → part ≡ take len bytes → Stops stop d a b (part ++ 10 ∷ []) s t → Stops stop d a b bytes s t
+  stops_line stop d a b bytes len part s t v lt is p =
+      let whole : (part ++ 10 ∷ []) ++ drop (suc len) bytes ≡ bytes = rw (is, v) (ap (λ l. l ++ drop (suc (line_len bytes)) bytes) (sym (line_len-feed bytes (rw v at lt))) ∙ take-append-drop (suc (line_len bytes)) bytes) in
+      subst (λ x. Stops stop d a b x s t) whole (stops_more stop d a b (part ++ 10 ∷ []) (drop (suc len) bytes) s t p)
+
+  -- the answers to a further part of one piece
+  pub answers_more : (d e f : Desk F) (a b c : Moment) (i n : ℕ) (piece : List ℕ) (s t u : Option (List ℕ)) → Answers d e a b (take i piece) s t → Answers e f b c (take n (drop i piece)) t u → Answers d f a c (take (i + n) piece) s u
+  answers_more d e f a b c i n piece s t u p q = rw take-add (answers_then d e f a b c _ _ s t u p q)
+
+  pub stops_rest : (stop : Stop) (d e : Desk F) (a b c : Moment) (i : ℕ) (piece : List ℕ) (s t u : Option (List ℕ)) → Answers d e a b (take i piece) s t → Stops stop e b c (drop i piece) t u → Stops stop d a c piece s u
+  stops_rest stop d e a b c i piece s t u p q =
+      subst (λ x. Stops stop d a c x s u) (take-append-drop i piece) (stops_then stop d e a b c (take i piece) (drop i piece) s t u p q)

@@ -1,4 +1,5 @@
 ghost use Rattle.std.specs.Prelude.{◌≡◌};
+ghost use Rattle.lake_top.specs.Run.{halt_line, status_of};
 
 use crate::status::Status;
 
@@ -12,8 +13,6 @@ pub enum Halt {
 }
 
 impl Halt {
-    ghost use Rattle.lake_top.specs.Run.{status_of};
-
     pub fn status(self) -> Status
         ensures { result ≡ status_of self }
     {
@@ -22,6 +21,18 @@ impl Halt {
             Halt::Write => Status::WriteFault,
             Halt::Memory => Status::Memory,
             Halt::TooLong => Status::TooLong,
+        }
+    }
+
+    /// The line without a head that is written last.
+    pub fn last_line(self) -> &'static [u8]
+        ensures { result.now ≡ halt_line self }
+    {
+        match self {
+            Halt::Read => b"! read fault\n",
+            Halt::Write => b"",
+            Halt::Memory => b"! no memory\n",
+            Halt::TooLong => b"! too long\n",
         }
     }
 }

@@ -1,83 +1,93 @@
-ghost use Rattle.std.specs.Prelude.{◌≡◌, ◌≤◌, ◌++◌, IfOk, OnOk, OnErr, length, slice_index};
-ghost use Rattle.plain_model.specs.Replay.{told, Line};
-ghost use Rattle.plain_model.specs.Step.{step};
-ghost use Rattle.lake_top.specs.Desk.{IsTurn, TellsSome};
-ghost use Rattle.lake_top.specs.Script.{line_at, counts_after};
-ghost use Rattle.line_forms.specs.Forms as forms;
-ghost use Rattle.line_forms.specs.Lines as lines;
+ghost use Rattle.std.specs.Prelude.{◌≡◌, ◌≤◌, ◌∷◌, [], ℕ, IfErr, IfOk, IfSome, OnErr, OnOk, length, slice_index, true};
+ghost use Rattle.lake_types.specs.declared.limits.TheConstants.{MAX_SESSIONS};
+ghost use Rattle.lake_model.specs.Core.{is_session};
+ghost use Rattle.lake_model.specs.Step as step;
+ghost use Rattle.lake_top.specs.Desks.{AreSet, Goes, moment};
+ghost use Rattle.lake_top.specs.Script.{numbered};
+ghost use Rattle.lake_top.specs.Sixteen.{line_of};
 
-use lake_types::Listed;
-use line_forms::{is_skipped, session_of, shorn, stmt_of};
-use plain_lake::Kept;
-use plain_model::{Answer, Reply, push_reply};
-use std::alloc::{AllocError, Global};
+use crate::sixteen::answer_line;
+use door::Door;
+use file_disk::{FileDisk, Held};
+use lake_io::{Clock, Names};
+use lake_model::{Answer, Reply};
+use lake_types::{Listed, Stmt};
+use session::Session;
+use std::alloc::Global;
+use stmt_text::{LineNo, read_line};
+use txn_buf::is_sized;
 
-/// The reply to a line. An `Err` changes nothing.
-fn reply_of(alloc: Global, kept: &mut Kept, session: u8, line: &[u8]) -> Result<Reply, AllocError>
-    requires { session ≤ 16 }
-    ensures reply { IfOk result (λ reply. reply ≡ (step kept.old session (forms.stmt_of line.now)).reply) }
-    ensures lake { OnOk result (kept.new ≡ (step kept.old session (forms.stmt_of line.now)).lake) }
-    ensures err { OnErr result (kept.new ≡ kept.old) }
+/// A reply of an answer alone.
+fn only(alloc: Global, last: Answer) -> Reply
+    ensures { result ≡ step.only last }
 {
-    let read = stmt_of(alloc, line)?;
-    kept.step(alloc, session, &read)
-}
-
-/// The reply to a line, which is lost where memory is wanting.
-fn turn(alloc: Global, kept: &mut Kept, counts: &[u64], session: u8, line: &[u8]) -> Reply
-    requires session { session ≡ lines.session_of line.now }
-    requires small { session ≤ 16 }
-    ensures { IsTurn kept.old (line_at counts.now line.now) result kept.new }
-{
-    match reply_of(alloc, kept, session, line) {
-        Ok(reply) => reply,
-        Err(_) => Reply {
-            rows: Listed::new(alloc),
-            last: Answer::Memory,
-        },
+    Reply {
+        rows: Listed::new(alloc),
+        last,
     }
 }
 
-/// The text that answers a counted line.
-fn counted_text(
+/// Answers a statement of one of sixteen sessions.
+#[tactic(auto, using(crate::proofs::LineLemmas::goes_memory))]
+fn answer_stmt<R: Door<F>, F: Held, D: FileDisk<File = F>, N: Names, C: Clock>(
     alloc: Global,
-    kept: &mut Kept,
-    counts: &mut Vec<u64>,
-    line: &[u8],
-) -> Result<Vec<u8>, AllocError>
-    requires { length counts.old.items ≡ 17 }
-    ensures text { IfOk result (λ text. (reply : Reply) × IsTurn kept.old (line_at counts.old.items line.now) reply kept.new × (text.items ≡ told (line_at counts.old.items line.now, reply))) }
-    ensures counts { OnOk result (counts.new.items ≡ counts_after counts.old.items line.now) }
-    ensures length { length counts.new.items ≡ 17 }
+    door: &mut R,
+    sessions: &mut [Session<F>],
+    disk: &mut D,
+    names: &mut N,
+    clock: &mut C,
+    session: u8,
+    stmt: &Stmt,
+) -> Reply
+    requires set { AreSet F.name F.size F.bytes (R.in_order door.old) (R.serves door.old)
+        (R.opened door.old) sessions.old }
+    requires session { is_session session ≡ true }
+    ensures set { AreSet F.name F.size F.bytes (R.in_order door.new) (R.serves door.new)
+        (R.opened door.new) sessions.new }
+    ensures goes { (number : ℕ) → Goes
+        (moment (R.stands door.old) sessions.old (D.files disk.old)
+        (R.keeper_faults door.old) (D.faults disk.old))
+        (moment (R.stands door.new) sessions.new (D.files disk.new)
+        (R.keeper_faults door.new) (D.faults disk.new))
+        (line_of session number stmt.now ∷ []) (result ∷ []) }
+    ensures part { D.part disk.new ≡ D.part disk.old }
 {
-    let session = session_of(line);
-    let Some(number) = counts[session as usize].checked_add(1) else {
-        return Err(AllocError);
-    };
-    let reply = turn(alloc, kept, counts.as_slice(), session, line);
-    let mut text = Vec::new(alloc);
-    push_reply(alloc, &mut text, session, number, &reply)?;
-    counts[session as usize] = number;
-    Ok(text)
+    if is_sized(stmt) {
+        answer_line(alloc, door, sessions, disk, names, clock, session, stmt)
+    } else {
+        only(alloc, Answer::Memory)
+    }
 }
 
-/// The text that answers a line: nothing for a skipped one.
-pub fn line_text(
+/// Answers a line that is counted.
+#[tactic(auto, using(crate::proofs::LineLemmas::goes_memory, crate::proofs::LineLemmas::goes_long, crate::proofs::LineLemmas::goes_wrong))]
+pub fn answer<R: Door<F>, F: Held, D: FileDisk<File = F>, N: Names, C: Clock>(
     alloc: Global,
-    kept: &mut Kept,
-    counts: &mut Vec<u64>,
+    door: &mut R,
+    sessions: &mut [Session<F>],
+    disk: &mut D,
+    names: &mut N,
+    clock: &mut C,
     line: &[u8],
-) -> Result<Vec<u8>, AllocError>
-    requires { length counts.old.items ≡ 17 }
-    ensures text { IfOk result (λ text. TellsSome kept.old counts.old.items line.now text.items kept.new counts.new.items) }
-    ensures length { length counts.new.items ≡ 17 }
+) -> Reply
+    requires set { AreSet F.name F.size F.bytes (R.in_order door.old) (R.serves door.old)
+        (R.opened door.old) sessions.old }
+    ensures set { AreSet F.name F.size F.bytes (R.in_order door.new) (R.serves door.new)
+        (R.opened door.new) sessions.new }
+    ensures goes { (number : ℕ) → Goes
+        (moment (R.stands door.old) sessions.old (D.files disk.old)
+        (R.keeper_faults door.old) (D.faults disk.old))
+        (moment (R.stands door.new) sessions.new (D.files disk.new)
+        (R.keeper_faults door.new) (D.faults disk.new))
+        (numbered number line.now ∷ []) (result ∷ []) }
+    ensures part { D.part disk.new ≡ D.part disk.old }
 {
-    let line = shorn(line);
-    if is_skipped(line) {
-        return Ok(Vec::new(alloc));
-    }
-    match counted_text(alloc, kept, counts, line) {
-        Ok(text) => Ok(text),
-        Err(error) => Err(error),
+    match read_line(alloc, line) {
+        Ok((session, stmt)) => {
+            answer_stmt(alloc, door, sessions, disk, names, clock, session, &stmt)
+        }
+        Err(LineNo::TooLong { .. }) => only(alloc, Answer::TooLong),
+        Err(LineNo::Syntax { at, .. }) => only(alloc, Answer::Syntax { at }),
+        Err(LineNo::Memory) => only(alloc, Answer::Memory),
     }
 }

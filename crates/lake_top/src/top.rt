@@ -1,155 +1,75 @@
-ghost use Rattle.std.specs.Prelude.{◌≡◌, ◌≢◌, ◌≤◌, ◌<◌, ◌+◌, ◌-◌, ◌^◌, ◌⊎◌, ◌∷◌, [], ℕ, min, IfErr, IfOk, OnErr, OnOk, Ok, true, false, length, take};
+ghost use Rattle.std.specs.Prelude.{◌≡◌, ◌≢◌, ◌≤◌, ◌<◌, ◌+◌, ◌-◌, ◌^◌, [], ℕ, min, None, Option, IfErr, IfOk, OnErr, OnOk, Err, length, replicate, true};
 ghost use Rattle.lake_io.specs.Causes.{Rose};
-ghost use Rattle.lake_io.specs.Told.{Gives, IsAtEnd, Takes};
-ghost use Rattle.lake_types.specs.declared.limits.TheConstants.{MAX_SCRIPT_BYTES};
-ghost use Rattle.plain_model.specs.Cuts.{NoFeed};
-ghost use Rattle.lake_top.specs.Desk.{new_desk, Answers, Moves};
-ghost use Rattle.lake_top.specs.Run.{Answered, FinishHalts, GivesMore, Halts, Outcome, TurnHalts, UsageOutcome, last_line};
-ghost use Rattle.lake_top.specs.Script.{script_lines};
+ghost use Rattle.lake_io.specs.Told.{IsAtEnd};
+ghost use Rattle.lake_types.specs.declared.limits.TheConstants.{MAX_SCRIPT_BYTES, MAX_SESSIONS};
+ghost use Rattle.lake_model.specs.Core.{is_session};
+ghost use Rattle.door.specs.Opened.{Opened};
+ghost use Rattle.lake_top.specs.Run.{Answered, Halts, Outcome, UsageOutcome, exit_of, fresh_of, left_of, start_of};
+ghost use Rattle.lake_top.specs.Script.{no_counts, script_lines};
+ghost use Rattle.lake_top.specs.Sixteen.{AreReady, owns_of};
 
-use crate::desk::{Desk, Stop};
+use crate::desk::Desk;
+use crate::ending::{refused, told};
 use crate::halt::Halt;
+use crate::opening::open_lake;
+use crate::script::answer_all;
 use crate::status::Status;
-use lake_io::{Sink, Source, write_all};
-use lake_types::limits::MAX_SCRIPT_BYTES;
+use door::Door;
+use file_disk::{FileDisk, Held};
+use keeper::Keeper;
+use lake_io::{Clock, Names, Sink, Source};
 use std::alloc::{AllocError, Global};
 
 /// How many bytes are read at once.
 const PIECE_BYTES: usize = 65_536;
 
-/// Reads a piece, answers the lines that end in it, and gives its length.
-fn turn<S: Source, O: Sink>(
-    alloc: Global,
-    input: &mut S,
-    output: &mut O,
-    desk: &mut Desk,
-    piece: &mut [u8],
-) -> Result<usize, Halt>
-    requires room { 0 < length piece.old }
-    requires small { length piece.old ≤ 65536 }
-    requires begun { NoFeed desk.old.pending }
-    ensures ok { IfOk result (λ n. Moves desk.old desk.new n
-        (S.left input.old) (S.left input.new) (O.taken output.old) (O.taken output.new)) }
-    ensures end { IfOk result (λ n. n ≡ 0 → IsAtEnd (S.left input.new)) }
-    ensures within { IfOk result (λ n. n ≤ length piece.old) }
-    ensures given { IfOk result (λ n. S.given input.new ≡ min (S.given input.old + n) (2 ^ 64 - 1)) }
-    ensures most { S.given input.new ≤ S.given input.old + length piece.old }
-    ensures halt { IfErr result (λ halt. TurnHalts halt desk.old
-        (S.left input.old) (S.left input.new) (O.taken output.old) (O.taken output.new)) }
-    ensures read_later { S.faults input.old ≤ S.faults input.new }
-    ensures written_later { O.faults output.old ≤ O.faults output.new }
-    ensures read { result ≡ Err Halt.Read → Rose (S.faults input.old) (S.faults input.new) }
-    ensures write { result ≡ Err Halt.Write → Rose (O.faults output.old) (O.faults output.new) }
-{
-    match input.read(piece) {
-        Ok(count) => match desk.take(alloc, output, &piece[..count]) {
-            Ok(()) => Ok(count),
-            Err(Stop::Memory) => Err(Halt::Memory),
-            Err(Stop::Write) => Err(Halt::Write),
-        },
-        Err(_) => Err(Halt::Read),
-    }
-}
+/// The last line of a run with other words.
+const USAGE: &[u8] =
+    b"! usage: lake [--inline 0..1000] [--target 1..1000000] [--gen SEED] [--count 0..20000]\n";
 
-/// Ends the last line at the end of the input.
-fn finish<O: Sink>(alloc: Global, output: &mut O, desk: &mut Desk) -> Result<(), Halt>
-    ensures ok { OnOk result (Answers desk.old desk.new (10 ∷ [])
-        (O.taken output.old) (O.taken output.new)) }
-    ensures halt { IfErr result (λ halt. FinishHalts halt desk.old
-        (O.taken output.old) (O.taken output.new)) }
-    ensures later { O.faults output.old ≤ O.faults output.new }
-    ensures write { result ≡ Err Halt.Write → Rose (O.faults output.old) (O.faults output.new) }
-{
-    match desk.end_line(alloc, output) {
-        Ok(()) => Ok(()),
-        Err(Stop::Memory) => Err(Halt::Memory),
-        Err(Stop::Write) => Err(Halt::Write),
-    }
-}
-
-/// Whether the input has a byte past the most of a script, which it then takes.
-fn goes_past<S: Source>(input: &mut S) -> Result<bool, Halt>
-    ensures more { IfOk result (λ more. GivesMore more (S.left input.old) (S.left input.new)) }
-    ensures none { result ≡ Ok false → S.given input.new ≤ S.given input.old }
-    ensures given { result ≡ Ok true → min (S.given input.old + 1) (2 ^ 64 - 1) ≤ S.given input.new }
-    ensures most { S.given input.new ≤ S.given input.old + 1 }
-    ensures fault { OnErr result (Gives (S.left input.old) (S.left input.new) []) }
-    ensures later { S.faults input.old ≤ S.faults input.new }
-    ensures read { OnErr result (Rose (S.faults input.old) (S.faults input.new)) }
-    ensures only { IfErr result (λ halt. halt ≡ Halt.Read) }
-{
-    let mut one = [0u8; 1];
-    match input.read(&mut one) {
-        Ok(count) => Ok(count > 0),
-        Err(_) => Err(Halt::Read),
-    }
-}
-
-/// Answers the whole input of a run, from the new lake on.
-fn answer_all<S: Source, O: Sink>(
-    alloc: Global,
-    input: &mut S,
-    output: &mut O,
-    desk: &mut Desk,
-    piece: &mut [u8],
-) -> Result<(), Halt>
-    requires new { desk.old ≡ new_desk }
-    requires room { 0 < length piece.old }
-    requires small { length piece.old ≤ 65536 }
-    ensures ok { OnOk result (Answered
-        (S.left input.old) (S.left input.new) (O.taken output.old) (O.taken output.new) script_lines []) }
-    ensures end { OnOk result (IsAtEnd (S.left input.new)) }
-    ensures halt { IfErr result (λ halt. Halts halt
-        (S.left input.old) (S.left input.new) (O.taken output.old) (O.taken output.new)) }
-    ensures short { OnOk result (S.given input.new ≤ S.given input.old + MAX_SCRIPT_BYTES) }
-    ensures most { S.given input.new ≤ S.given input.old + MAX_SCRIPT_BYTES + 1 }
-    ensures read { result ≡ Err Halt.Read → Rose (S.faults input.old) (S.faults input.new) }
-    ensures write { result ≡ Err Halt.Write → Rose (O.faults output.old) (O.faults output.new) }
-    ensures long { result ≡ Err Halt.TooLong →
-        min (S.given input.old + MAX_SCRIPT_BYTES + 1) (2 ^ 64 - 1) ≤ S.given input.new }
-    ensures later { O.faults output.old ≤ O.faults output.new }
-{
-    let mut total = 0u64;
-    while total < MAX_SCRIPT_BYTES {
-        let room = piece.len().min((MAX_SCRIPT_BYTES - total) as usize);
-        let count = match turn(alloc, input, output, desk, &mut piece[..room]) {
-            Ok(count) => count,
-            Err(halt) => return Err(halt),
-        };
-        if count == 0 {
-            return match finish(alloc, output, desk) {
-                Ok(()) => Ok(()),
-                Err(halt) => Err(halt),
-            };
-        }
-        total += count as u64;
-    }
-    match goes_past(input) {
-        Ok(true) => Err(Halt::TooLong),
-        Ok(false) => match finish(alloc, output, desk) {
-            Ok(()) => Ok(()),
-            Err(halt) => Err(halt),
-        },
-        Err(halt) => Err(halt),
-    }
-}
-
-/// The desk of a new lake, and the room for a piece of the input.
-fn begun(alloc: Global) -> Result<(Desk, Vec<u8>), AllocError>
-    ensures desk { IfOk result (λ begun. begun.0 ≡ new_desk) }
+/// A new desk, and the room for a piece of the input.
+fn begun<F: Held>(alloc: Global) -> Result<(Desk<F>, Vec<u8>), AllocError>
+    ensures sixteen { IfOk result (λ begun. length begun.0.sessions.items ≡ MAX_SESSIONS) }
+    ensures ready { IfOk result (λ begun. (opened : ℕ → Option Opened) →
+        ((s : ℕ) → is_session s ≡ true → opened s ≡ None) →
+        AreReady F.name F.size F.bytes opened begun.0.sessions.items) }
+    ensures owns { IfOk result (λ begun. owns_of begun.0.sessions.items ≡ replicate MAX_SESSIONS []) }
+    ensures counts { IfOk result (λ begun. begun.0.counts.items ≡ no_counts) }
+    ensures pending { IfOk result (λ begun. begun.0.pending.items ≡ []) }
     ensures room { IfOk result (λ begun. 0 < length begun.1.items) }
     ensures small { IfOk result (λ begun. length begun.1.items ≤ 65536) }
 {
     let piece = vec![in alloc; 0; PIECE_BYTES]?;
-    Ok((Desk::new(alloc)?, piece))
+    match Desk::new(alloc) {
+        Ok(desk) => Ok((desk, piece)),
+        Err(error) => Err(error),
+    }
 }
 
-fn answered<S: Source, O: Sink>(alloc: Global, input: &mut S, output: &mut O) -> Result<(), Halt>
+/// Answers the whole input of a run, over a door with nothing open.
+fn answered<R: Door<F>, F: Held, D: FileDisk<File = F>, N: Names, C: Clock, S: Source, O: Sink>(
+    alloc: Global,
+    door: &mut R,
+    disk: &mut D,
+    names: &mut N,
+    clock: &mut C,
+    input: &mut S,
+    output: &mut O,
+) -> Result<(), Halt>
+    requires all { (s : ℕ) → is_session s ≡ true → R.serves door.old s ≡ true }
+    requires in_order { R.in_order door.old }
+    requires closed { (s : ℕ) → is_session s ≡ true → R.opened door.old s ≡ None }
+    ensures in_order { R.in_order door.new }
     ensures ok { OnOk result (Answered
+        (fresh_of (R.stands door.old) (D.files disk.old) (R.keeper_faults door.old) (D.faults disk.old))
+        (left_of (R.stands door.new) (D.files disk.new) (R.keeper_faults door.new) (D.faults disk.new))
         (S.left input.old) (S.left input.new) (O.taken output.old) (O.taken output.new) script_lines []) }
     ensures end { OnOk result (IsAtEnd (S.left input.new)) }
     ensures halt { IfErr result (λ halt. Halts halt
+        (fresh_of (R.stands door.old) (D.files disk.old) (R.keeper_faults door.old) (D.faults disk.old))
+        (left_of (R.stands door.new) (D.files disk.new) (R.keeper_faults door.new) (D.faults disk.new))
         (S.left input.old) (S.left input.new) (O.taken output.old) (O.taken output.new)) }
+    ensures part { D.part disk.new ≡ D.part disk.old }
     ensures short { OnOk result (S.given input.new ≤ S.given input.old + MAX_SCRIPT_BYTES) }
     ensures most { S.given input.new ≤ S.given input.old + MAX_SCRIPT_BYTES + 1 }
     ensures read { result ≡ Err Halt.Read → Rose (S.faults input.old) (S.faults input.new) }
@@ -160,7 +80,10 @@ fn answered<S: Source, O: Sink>(alloc: Global, input: &mut S, output: &mut O) ->
 {
     match begun(alloc) {
         Ok((mut desk, mut piece)) => {
-            match answer_all(alloc, input, output, &mut desk, piece.as_mut_slice()) {
+            let piece = piece.as_mut_slice();
+            match answer_all(
+                alloc, door, disk, names, clock, input, output, &mut desk, piece,
+            ) {
                 Ok(()) => Ok(()),
                 Err(halt) => Err(halt),
             }
@@ -169,55 +92,56 @@ fn answered<S: Source, O: Sink>(alloc: Global, input: &mut S, output: &mut O) ->
     }
 }
 
-/// Writes the last line of a status, which is a write fault where that fails.
-fn told<O: Sink>(output: &mut O, status: Status) -> Status
-    ensures whole { result ≢ Status.WriteFault →
-        (result ≡ status) × Takes (O.taken output.old) (O.taken output.new) (last_line status) }
-    ensures part { result ≡ Status.WriteFault →
-        (n : ℕ) × Takes (O.taken output.old) (O.taken output.new) (take n (last_line status)) }
-    ensures later { O.faults output.old ≤ O.faults output.new }
-    ensures fault { result ≡ Status.WriteFault →
-        (status ≡ Status.WriteFault) ⊎ Rose (O.faults output.old) (O.faults output.new) }
-{
-    match write_all(output, status.last_line()) {
-        Ok(()) => status,
-        Err(_) => Status::WriteFault,
-    }
-}
-
-/// Answers a script: reads the lines of the input, and writes the reply to each counted line before it
-/// answers the next.
+/// Opens the lake of a keeper and a disk, and answers a script: reads the lines of the input, and writes the reply
+/// to each counted line before it answers the next. What is open at the end is rolled back without a reply. The
+/// keeper is handed back.
 ///
 /// The words are those of the command line, the program's name first; there are no options yet.
-pub fn run<S: Source, O: Sink>(
+pub fn run<S: Source, O: Sink, K: Keeper, D: FileDisk, N: Names, C: Clock>(
     alloc: Global,
     words: &[String],
     input: &mut S,
     output: &mut O,
-) -> Status
-    // What is read and written, by the status.
-    ensures output { length words.now ≡ 1 → Outcome result (S.left input.old) (S.left input.new)
-        (O.taken output.old) (O.taken output.new) }
+    keeper: K,
+    disk: &mut D,
+    names: &mut N,
+    clock: &mut C,
+) -> (Status, K)
+    // What is read and written, and the lake at exit, by the status.
+    ensures output { length words.now ≡ 1 → Outcome result.0 (K.content keeper)
+        (start_of (K.content keeper) (D.files disk.old) (K.faults keeper) (D.faults disk.old))
+        (exit_of (K.content result.1) (D.files disk.new) (K.faults result.1) (D.faults disk.new))
+        (S.left input.old) (S.left input.new) (O.taken output.old) (O.taken output.new) }
 
-    // Other words are answered by the usage line, and nothing is read.
-    ensures usage { length words.now ≢ 1 → UsageOutcome result (O.taken output.old) (O.taken output.new) }
+    // Other words are answered by the usage line, and nothing is read or changed.
+    ensures usage { length words.now ≢ 1 → UsageOutcome result.0 (O.taken output.old) (O.taken output.new) }
     ensures unread { length words.now ≢ 1 → input.new ≡ input.old }
+    ensures untouched { length words.now ≢ 1 → (result.1 ≡ keeper) × (disk.new ≡ disk.old) }
 
     // No more is read than shows that a script is too long.
     ensures most { S.given input.new ≤ S.given input.old + MAX_SCRIPT_BYTES + 1 }
 
     // The causes of the statuses.
-    ensures short { result ≡ Status.Good → S.given input.new ≤ S.given input.old + MAX_SCRIPT_BYTES }
-    ensures read { result ≡ Status.ReadFault → Rose (S.faults input.old) (S.faults input.new) }
-    ensures write { result ≡ Status.WriteFault → Rose (O.faults output.old) (O.faults output.new) }
-    ensures long { result ≡ Status.TooLong →
+    ensures short { result.0 ≡ Status.Good → S.given input.new ≤ S.given input.old + MAX_SCRIPT_BYTES }
+    ensures read { result.0 ≡ Status.ReadFault → Rose (S.faults input.old) (S.faults input.new) }
+    ensures write { result.0 ≡ Status.WriteFault → Rose (O.faults output.old) (O.faults output.new) }
+    ensures long { result.0 ≡ Status.TooLong →
         min (S.given input.old + MAX_SCRIPT_BYTES + 1) (2 ^ 64 - 1) ≤ S.given input.new }
+    ensures keeper { result.0 ≡ Status.KeeperFault → Rose (K.faults keeper) (K.faults result.1) }
+    ensures disk { result.0 ≡ Status.DiskFault → Rose (D.faults disk.old) (D.faults disk.new) }
+    ensures part { D.part disk.new ≡ D.part disk.old }
 {
     if words.len() != 1 {
-        return told(output, Status::Usage);
+        return (told(output, USAGE, Status::Usage), keeper);
     }
-    match answered(alloc, input, output) {
-        Ok(()) => Status::Good,
-        Err(halt) => told(output, halt.status()),
+    match open_lake(alloc, keeper, disk, clock) {
+        Ok(mut core) => {
+            let status = match answered(alloc, &mut core, disk, names, clock, input, output) {
+                Ok(()) => Status::Good,
+                Err(halt) => told(output, halt.last_line(), halt.status()),
+            };
+            (status, core.into_keeper())
+        }
+        Err((why, keeper)) => (refused(alloc, output, &why), keeper),
     }
 }

@@ -5,4 +5,5 @@ mod answers;
 mod bytes;
 mod lines;
 
+pub use bytes::{push_number, push_numbers, push_shown, push_text, push_words};
 pub use lines::push_reply;

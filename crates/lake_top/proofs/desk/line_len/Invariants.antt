@@ -1,5 +1,5 @@
 use Rattle.std.proofs.Common.{◌≡◌, ◌+◌, drop}
-use Rattle.lake_top.specs.Desk.{line_len}
+use Rattle.lake_top.specs.Desks.{line_len}
 use Rattle.lake_top.proofs.desk.line_len.Given as goal
 
 -- what is left adds to the length so far

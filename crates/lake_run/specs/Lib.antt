@@ -1,4 +1,0 @@
-pub mod Desks
-pub mod Running
-pub mod Script
-pub mod Sixteen

@@ -1,4 +1,0 @@
-pub mod Digits
-pub mod Forms
-pub mod Lines
-pub mod Tokens

@@ -1,5 +1,0 @@
-pub mod ApplyLemmas
-pub mod CutLemmas
-pub mod ReplayLemmas
-pub mod StepLemmas
-pub mod TextLemmas
